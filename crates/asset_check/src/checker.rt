@@ -34,7 +34,7 @@ pub struct Checker {
 }
 
 impl Model for Checker {
-    ghost use Rattle.asset_entries.specs.Recorded.{objects_of};
+    ghost use Rattle.asset_names.specs.Steps.{objects_of};
     ghost use Rattle.asset_names.specs.Sets.{HasNoDouble};
     ghost use Rattle.asset_check.specs.Checked.{Seen};
     ghost use Rattle.asset_check.specs.Checking.{seen_in};
@@ -48,9 +48,8 @@ impl Model for Checker {
 
 impl Checker {
     ghost use Rattle.std.specs.Prelude.{◌≡◌, ℕ, List, [], Some, None, IfOk, OnOk, IfErr, OnErr};
-    ghost use Rattle.asset_entries.specs.Recorded.{objects_of};
     ghost use Rattle.asset_names.specs.declared.steps.Step.{Step as StepAsked};
-    ghost use Rattle.asset_names.specs.Steps.{Opening};
+    ghost use Rattle.asset_names.specs.Steps.{Opening, objects_of};
     ghost use Rattle.asset_names.specs.Sets.{HasNoDouble};
     ghost use Rattle.asset_grammar.specs.Grammar.{line_of, said_as};
     ghost use Rattle.asset_check.specs.Checked.{mistake_at, object_mistake, seen_by, seen_object};

@@ -8,11 +8,11 @@ use Rattle.std.proofs.lemmas.List.Sums.{sum_by-append, sum_by-cons}
 use Rattle.asset_names.specs.declared.names.Ob.{Ob}
 use Rattle.asset_names.specs.declared.steps.Step.{Step}
 use Rattle.asset_names.specs.declared.replies.Outcome.TheVariants.{Answer}
-use Rattle.asset_names.specs.Steps.{Opening, Entry}
+use Rattle.asset_names.specs.Steps.{Opening, Entry, objects_of}
 use Rattle.asset_names.specs.Answers.{IsLegal}
 use Rattle.asset_names.specs.Operations.{exists}
 use Rattle.asset_names.specs.Sets.{twice, HasNoDouble}
-use Rattle.asset_entries.specs.Recorded.{Recorded, objects_of, opened, answer_to, after, with_entry, has_room}
+use Rattle.asset_entries.specs.Recorded.{Recorded, opened, answer_to, after, with_entry, has_room}
 use Rattle.asset_grammar.specs.declared.grammar.Command.TheVariants.{Ask}
 use Rattle.asset_grammar.specs.declared.grammar.Line.TheVariants.{Command}
 use Rattle.asset_grammar.specs.Grammar.{line_of}

@@ -3,11 +3,11 @@ use Rattle.std.proofs.Common.{◌≡◌, ℕ, ◌+◌, Bool, true, false, cond, 
 use Rattle.asset_names.specs.declared.steps.Step.{Step}
 use Rattle.asset_names.specs.declared.replies.Outcome.{Outcome}
 use Rattle.asset_names.specs.declared.replies.Outcome.TheVariants.{Answer, Wait}
-use Rattle.asset_names.specs.Steps.{Opening}
+use Rattle.asset_names.specs.Steps.{Opening, objects_of}
 use Rattle.asset_names.specs.Answers.{IsLegal}
 use Rattle.asset_names.specs.Operations.{exists}
 use Rattle.asset_names.specs.Sets.{HasNoDouble, twice}
-use Rattle.asset_entries.specs.Recorded.{Recorded, objects_of, opened, answer_to, after, with_entry, has_room}
+use Rattle.asset_entries.specs.Recorded.{Recorded, opened, answer_to, after, with_entry, has_room}
 use Rattle.asset_grammar.specs.declared.grammar.Command.TheVariants.{Ask, Object}
 use Rattle.asset_grammar.specs.declared.grammar.Line.{Line}
 use Rattle.asset_grammar.specs.declared.grammar.Line.TheVariants.{Blank, Command, Bad}

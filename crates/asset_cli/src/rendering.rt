@@ -3,7 +3,7 @@ ghost use Rattle.std.specs.Bool.{OnTrue, OnFalse};
 ghost use Rattle.std.specs.Prelude.{◌≡◌, false, ℕ, ◌+◌, ◌^◌, ◌<◌, ◌≤◌, List, ◌∷◌, ◌++◌, Some, length, IfOk, OnOk, IfErr, string_bytes};
 ghost use Rattle.asset_names.specs.Sets.{HasNoDouble};
 ghost use Rattle.asset_entries.specs.Recorded.{answer_to};
-ghost use Rattle.asset_core.specs.OpenFaults.{objects_of};
+ghost use Rattle.asset_names.specs.Steps.{objects_of};
 ghost use Rattle.asset_core.specs.OpenFaults.{IsCapacity};
 ghost use Rattle.asset_grammar.specs.Grammar.{line_of, said_as};
 ghost use Rattle.asset_scripts.specs.Transfers.{input_limit};

@@ -1,8 +1,7 @@
 -- When nothing is opened.
-pub use Rattle.asset_entries.specs.Recorded.{objects_of}
 use Rattle.std.specs.Prelude.{ℕ, ◌≤◌}
 use Rattle.asset_names.specs.Sets.{IsLeastDouble, HasNoDouble}
-use Rattle.asset_names.specs.Steps.{Opening}
+use Rattle.asset_names.specs.Steps.{Opening, objects_of}
 use Rattle.asset_core.specs.declared.open_fault.OpenFault.{OpenFault}
 use Rattle.asset_core.specs.declared.open_fault.OpenFault.TheVariants.{BadCapacity, DoubleObject, NoMemory}
 

@@ -60,14 +60,13 @@ impl Model for Core {
 
 impl Core {
     ghost use Rattle.std.specs.Prelude.{◌≡◌, ℕ, ◌+◌, ◌<◌, ◌≤◌, [], ◌∷◌, true, false, cond, map, filter, reverse, length, slice_get, IfOk, IfErr, OnOk, Err};
-    ghost use Rattle.asset_names.specs.Steps.{takes_effect, applied, initiated};
+    ghost use Rattle.asset_names.specs.Steps.{takes_effect, applied, initiated, objects_of};
     ghost use Rattle.asset_names.specs.Endings.{live, status};
     ghost use Rattle.asset_names.specs.Operations.{holds, value_if_any};
     ghost use Rattle.asset_names.specs.declared.replies.Outcome.TheVariants.{Answer, Wait as Waits};
     ghost use Rattle.asset_names.specs.Room.{initiates, owed, fits, changes_status};
     ghost use Rattle.asset_entries.specs.Recorded.{answer_to, after, has_room, is_ending};
     ghost use Rattle.asset_history.specs.Sharing.{first_of, group_committed};
-    ghost use Rattle.asset_core.specs.OpenFaults.{objects_of};
     ghost use Rattle.asset_names.specs.Arrows.{lists};
     ghost use Rattle.asset_ends.specs.Waits.{is_blocker, is_unfinished, is_outside_source};
     ghost use Rattle.asset_core.specs.Pending.{Pending, facility_of, pending_after, pending_of, waiting_for};

@@ -2,14 +2,14 @@
 use Rattle.std.proofs.Common.{◌≡◌, ℕ, ◌<◌, Bool, true, false, cond, eqb, List, [], ◌∷◌, ◌++◌, length, get_or, refl, sym, ap, subst, ◌∙◌, arith, suc, zero, inl, inr}
 use Rattle.std.proofs.lemmas.Bool.{cases_eq, eqb-true}
 use Rattle.std.proofs.lemmas.List.{get_or-map, length-map}
-use Rattle.asset_names.specs.Arrows.{lists}
+use Rattle.asset_names.specs.Arrows.{lists, with_name}
 use Rattle.asset_names.specs.Steps.{Entry}
 use Rattle.asset_names.specs.Groups.{actor, partner, same_group, dead}
 use Rattle.asset_names.specs.Orderly.{Distinct}
 use Rattle.asset_names.proofs.ListLemmas.{distinct_pushed}
 use Rattle.asset_deletion.specs.Numbered.{groups_before, group_numbers, group_count}
 use Rattle.asset_deletion.proofs.NumberLemmas.{before_more, number_at}
-use Rattle.asset_history.specs.Named.{with_name, names_of}
+use Rattle.asset_history.specs.Named.{names_of}
 use Rattle.asset_deletion.specs.Named.{Means}
 use Rattle.asset_deletion.specs.Grouping.{first_labels, grouping_of}
 use Rattle.asset_deletion.specs.Grouped.{IsFirstOfGroup, AreGroups}

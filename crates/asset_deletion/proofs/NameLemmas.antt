@@ -5,10 +5,9 @@ use Rattle.std.specs.List.{list_any}
 use Rattle.std.specs.Option.{option_map}
 use Rattle.indexmap.specs.IndexSet.{insert_key}
 use Rattle.asset_names.specs.declared.names.Txn.{Txn}
-use Rattle.asset_names.specs.Arrows.{lists}
+use Rattle.asset_names.specs.Arrows.{lists, with_name}
 use Rattle.asset_names.proofs.Common.{eqb-flip}
 use Rattle.asset_names.proofs.ListLemmas.{any_alike}
-use Rattle.asset_history.specs.Named.{with_name}
 use Rattle.asset_history.specs.Sharing.{named}
 
 pub listed_as : (names : List ℕ) (n : ℕ) → list_any (eqb n) names ≡ lists names n

@@ -8,14 +8,14 @@ use Rattle.std.proofs.lemmas.List.Folds.{list_any-append}
 use Rattle.asset_entries.proofs.EntryLemmas.{next_entry, between}
 use Rattle.asset_names.specs.declared.names.Txn.{Txn}
 use Rattle.asset_names.specs.declared.replies.Outcome.TheVariants.{Answer}
-use Rattle.asset_names.specs.Arrows.{lists}
+use Rattle.asset_names.specs.Arrows.{lists, with_name}
 use Rattle.asset_names.specs.Steps.{Opening, Entry, applied}
 use Rattle.asset_names.specs.Groups.{actor, partner, same_group, dead, stays, kept, without}
 use Rattle.asset_names.specs.Answers.{answer, IsLegal}
 use Rattle.asset_names.proofs.Common.{both_follow}
 use Rattle.asset_names.proofs.ListLemmas.{any_map, any_alike, listed_any}
 use Rattle.asset_laws.proofs.GroupLemmas.{group_refl, group_sym, dead_alike, stays_answered}
-use Rattle.asset_history.specs.Named.{with_name, names_of}
+use Rattle.asset_history.specs.Named.{names_of}
 use Rattle.asset_deletion.specs.Grouping.{Grouping, grouping_of, number_in, same_number, dead_in, dead_at}
 use Rattle.asset_deletion.specs.Going.{takes_along, goes, keeps, AreNumbersBelow, SaysWhoStays}
 use Rattle.asset_deletion.proofs.GroupingLemmas.{entries_numbered, name_position, named_in_group, dead_in_group, same_in_group}

@@ -13,7 +13,7 @@ pub record Means (leads : ℕ → ℕ → Bool) (names labels : List ℕ) : Type
   pub second : (n m : ℕ) → lists names m ≡ false → leads n m ≡ nat_eq n m
 
 -- Each name has the number of its group, below the count, and two names have one number exactly if they lead to
--- each other. To a name that is not listed it alone leads.
+-- each other. Only the name itself leads to a name that is not listed.
 pub record IsNumbered (leads : ℕ → ℕ → Bool) (names numbers : List ℕ) (count : ℕ) : Type 0 where
   pub long : length numbers ≡ length names
   pub below : (k : ℕ) → k < length names → slice_index numbers k < count

@@ -49,13 +49,13 @@ impl Tables {
     ghost use Rattle.asset_names.specs.declared.operations.Op.{Op as Operation};
     ghost use Rattle.asset_names.specs.InSet.{only_in};
     ghost use Rattle.asset_names.specs.Numbered.{number_in};
-    ghost use Rattle.asset_names.specs.Steps.{Opening};
+    ghost use Rattle.asset_names.specs.Steps.{Opening, objects_of};
     ghost use Rattle.asset_names.specs.Orderly.{IsOrderly};
     ghost use Rattle.asset_names.specs.Endings.{status};
     ghost use Rattle.asset_names.specs.Room.{owed};
     ghost use Rattle.asset_names.specs.Operations.{allows, free, value_if_any};
     ghost use Rattle.asset_names.specs.Sets.{HasNoDouble};
-    ghost use Rattle.asset_objects.specs.Faults.{objects_of, IsObjectsFault};
+    ghost use Rattle.asset_objects.specs.Faults.{IsObjectsFault};
     ghost use Rattle.asset_objects.specs.Cells.{cells, number_of, has_object, value_in, opened};
     ghost use Rattle.asset_objects.specs.Placed.{objects_in, IsTied};
     ghost use Rattle.asset_seats.specs.Seated.{Seated, seat};

@@ -1,6 +1,5 @@
 -- A history as callers see it, and what a step makes of it.
-use Rattle.std.specs.Prelude.{ℕ, ℤ, ◌+◌, Bool, true, false, List, [], ◌∷◌, length, map}
-use Rattle.asset_names.specs.declared.names.Ob.{Ob}
+use Rattle.std.specs.Prelude.{ℕ, ◌+◌, Bool, true, false, List, [], ◌∷◌, length}
 use Rattle.asset_names.specs.declared.steps.Step.{Step}
 use Rattle.asset_names.specs.declared.replies.Reply.{Reply}
 use Rattle.asset_names.specs.declared.replies.Outcome.{Outcome}
@@ -14,10 +13,6 @@ pub record Recorded : Type 0 where
   pub opening : Opening
   pub entries : List Entry
   pub capacity : ℕ
-
--- the objects of an opening
-abbrev pub objects_of : Opening → List ℕ
-objects_of opening = map (λ (pair : Ob × ℤ). pair.0.0) opening
 
 -- the history of an opening, before the first entry
 unfoldable pub opened : Opening → ℕ → Recorded

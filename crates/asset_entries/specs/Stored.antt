@@ -11,11 +11,10 @@ use Rattle.asset_names.specs.declared.steps.Step.TheVariants.{Initiate, Begin, R
 use Rattle.asset_names.specs.declared.replies.Refusal.TheVariants as Refusal'
 use Rattle.asset_names.specs.declared.replies.Reply.{Reply}
 use Rattle.asset_names.specs.declared.replies.Reply.TheVariants as Reply'
-use Rattle.asset_names.specs.Steps.{Opening, Entry}
+use Rattle.asset_names.specs.Steps.{Opening, Entry, objects_of}
 use Rattle.asset_names.specs.Sets.{no_object_name, HasNoDouble}
 use Rattle.asset_names.specs.OpSets.{OpSet}
 use Rattle.asset_names.specs.Answers.{IsLegal}
-use Rattle.asset_entries.specs.Recorded.{objects_of}
 use Rattle.asset_entries.specs.declared.reply_tag.ReplyTag.{ReplyTag}
 use Rattle.asset_entries.specs.declared.reply_tag.ReplyTag.TheVariants as ReplyTag'
 use Rattle.asset_entries.specs.StoredSets.{StoredSet, set_or_all}

@@ -52,9 +52,9 @@ impl Entries {
     ghost use Rattle.asset_entries.specs.Operating.{operator_at, opener_at};
     ghost use Rattle.asset_names.specs.Sets.{HasNoDouble};
     ghost use Rattle.asset_names.specs.Answers.{IsLegal};
-    ghost use Rattle.asset_names.specs.Steps.{Entry};
+    ghost use Rattle.asset_names.specs.Steps.{Entry, objects_of};
     ghost use Rattle.asset_names.specs.declared.replies.Outcome.TheVariants.{Answer};
-    ghost use Rattle.asset_entries.specs.Recorded.{objects_of, opened, answer_to, with_entry};
+    ghost use Rattle.asset_entries.specs.Recorded.{opened, answer_to, with_entry};
 
     /// Returns these opening values without entries, with room for `capacity` of them. No object is given
     /// twice. It takes that room here, and fails if memory runs out.

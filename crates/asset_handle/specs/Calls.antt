@@ -5,13 +5,13 @@ use Rattle.asset_names.specs.declared.names.Txn.{Txn}
 use Rattle.asset_names.specs.declared.operations.Op.{Op}
 use Rattle.asset_names.specs.declared.steps.Step.{Step}
 use Rattle.asset_names.specs.declared.replies.Outcome.TheVariants.{Answer, Wait}
-use Rattle.asset_names.specs.Steps.{Opening, Entry, applied}
+use Rattle.asset_names.specs.Steps.{Opening, Entry, applied, objects_of}
 use Rattle.asset_names.specs.Sets.{IsLeastDouble}
 use Rattle.asset_names.specs.Answers.{takes_memory, outcome_takes_effect}
 use Rattle.asset_names.specs.Endings.{status}
 use Rattle.asset_names.specs.Operations.{value_if_any}
 use Rattle.asset_names.specs.Sources.{is_operation}
-use Rattle.asset_entries.specs.Recorded.{answer_to, after, has_room, is_ending, objects_of}
+use Rattle.asset_entries.specs.Recorded.{answer_to, after, has_room, is_ending}
 use Rattle.asset_core.specs.Pending.{Facility, facility_of, pending_after, waiting_for}
 use Rattle.asset_core.specs.OpenFaults.{IsCapacity, MayOpen}
 use Rattle.asset_deletion.specs.Grouping.{grouping_of, number_in}

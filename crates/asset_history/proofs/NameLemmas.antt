@@ -2,11 +2,11 @@
 use Rattle.std.proofs.Common.{◌≡◌, ℕ, ◌+◌, ◌≤◌, ◌*◌, Bool, true, false, cond, eqb, ◌||◌, List, [], ◌∷◌, ◌++◌, length, refl, sym, ap, ◌∙◌, arith}
 use Rattle.std.proofs.lemmas.Bool.{eqb-true}
 use Rattle.std.proofs.lemmas.List.{length_push}
-use Rattle.asset_names.specs.Arrows.{lists}
+use Rattle.asset_names.specs.Arrows.{lists, with_name}
 use Rattle.asset_names.specs.Steps.{Entry}
 use Rattle.asset_names.specs.Groups.{actor, partner, acted_on_by, acted_on}
 use Rattle.asset_names.proofs.ListLemmas.{lists_pushed}
-use Rattle.asset_history.specs.Named.{with_name, names_of}
+use Rattle.asset_history.specs.Named.{names_of}
 
 -- ---- one more name
 pub with_new : (names : List ℕ) (n : ℕ) → lists names n ≡ false → with_name names n ≡ names ++ n ∷ []

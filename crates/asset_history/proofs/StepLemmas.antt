@@ -4,7 +4,7 @@ use Rattle.std.specs.Prelude.{slice_get}
 use Rattle.std.proofs.lemmas.Bool.{cond-true, or_cases, and_parts, cases_eq, eqb-true, eq-eqb, false≢true}
 use Rattle.std.proofs.lemmas.List.{length_push, get_or_push, get_or_append_left}
 use Rattle.asset_names.specs.declared.names.Txn.{Txn}
-use Rattle.asset_names.specs.Arrows.{Arrow, lists, has_arrow, Chain}
+use Rattle.asset_names.specs.Arrows.{Arrow, lists, with_name, has_arrow, Chain}
 use Rattle.asset_names.specs.Arrows.Chain.{stay, along}
 use Rattle.asset_names.specs.Paths.{both_ways}
 use Rattle.asset_names.specs.Steps.{Entry}
@@ -15,9 +15,8 @@ use Rattle.asset_names.proofs.DependLemmas.{has_both}
 use Rattle.asset_names.proofs.ListLemmas.{listed_at, lists_at}
 use Rattle.asset_names.proofs.PermitLemmas.{has_listed}
 use Rattle.asset_laws.proofs.GroupLemmas.{group_refl, joined_same, later_join}
-use Rattle.asset_name_groups.specs.NamesInGroups.{NamesInGroups, flag_at, has_name, one_more, with_name, IsConsistent}
+use Rattle.asset_name_groups.specs.NamesInGroups.{NamesInGroups, flag_at, has_name, one_more, with_node, IsConsistent}
 use Rattle.asset_history.specs.Named.{names_of}
-use Rattle.asset_history.specs.Named as Named
 use Rattle.asset_history.specs.Together.{name_at, label_at, commits, AreOfEntries, AreFlagged, AreJoined, HaveGrown}
 use Rattle.asset_history.specs.Kept.{before, pair_of, pair_at, Respect, AreLabels, AreNamed}
 use Rattle.asset_history.proofs.FlagLemmas.{commit_acts, flags_by_labels}
@@ -117,40 +116,40 @@ module _ (g : NamesInGroups) (sound : IsConsistent g) (t : ℕ) (new : has_name 
 
 -- a name that may be there already
 module _ (g : NamesInGroups) (sound : IsConsistent g) (t : ℕ) where
-  by_name : (P : NamesInGroups → Type 0) → P g → (has_name g.names t ≡ false → P (one_more g t)) → P (with_name g t)
-  unfolding with_name
+  by_name : (P : NamesInGroups → Type 0) → P g → (has_name g.names t ≡ false → P (one_more g t)) → P (with_node g t)
+  unfolding with_node
   by_name P there new = go (has_name g.names t) refl where
     go : (b : Bool) → has_name g.names t ≡ b → P (cond b g (one_more g t))
     go true is = there
     go false is = new is
 
-  pub with_name_grown : HaveGrown g (with_name g t)
-  with_name_grown = by_name (HaveGrown g) (record { more = omega arith; names = λ k below. refl; stay = λ i j is_i is_j same. same }) (λ new. one_more_grown g sound t new)
+  pub with_node_grown : HaveGrown g (with_node g t)
+  with_node_grown = by_name (HaveGrown g) (record { more = omega arith; names = λ k below. refl; stay = λ i j is_i is_j same. same }) (λ new. one_more_grown g sound t new)
 
-  pub with_name_of : (entries : List Entry) → AreOfEntries entries g → AreOfEntries entries (with_name g t)
-  with_name_of entries of = by_name (AreOfEntries entries) of (λ new. one_more_of g sound t new entries of)
+  pub with_node_of : (entries : List Entry) → AreOfEntries entries g → AreOfEntries entries (with_node g t)
+  with_node_of entries of = by_name (AreOfEntries entries) of (λ new. one_more_of g sound t new entries of)
 
-  pub with_name_flagged : (seen : List Entry) → (has_name g.names t ≡ false → commits seen t ≡ false) → AreFlagged seen g → AreFlagged seen (with_name g t)
-  with_name_flagged seen none flagged = by_name (AreFlagged seen) flagged (λ new. one_more_flagged g sound t new seen (none new) flagged)
+  pub with_node_flagged : (seen : List Entry) → (has_name g.names t ≡ false → commits seen t ≡ false) → AreFlagged seen g → AreFlagged seen (with_node g t)
+  with_node_flagged seen none flagged = by_name (AreFlagged seen) flagged (λ new. one_more_flagged g sound t new seen (none new) flagged)
 
-  pub with_name_names : (with_name g t).names ≡ Named.with_name g.names t
-  unfolding with_name one_more Named.with_name has_name lists
-  with_name_names = go (has_name g.names t) where
+  pub with_node_names : (with_node g t).names ≡ with_name g.names t
+  unfolding with_node one_more with_name has_name lists
+  with_node_names = go (has_name g.names t) where
     go : (b : Bool) → (cond b g (one_more g t)).names ≡ cond b g.names (g.names ++ t ∷ [])
     go true = refl
     go false = refl
 
-  pub with_name_room : (with_name g t).room ≡ g.room
-  unfolding with_name one_more
-  with_name_room = go (has_name g.names t) where
+  pub with_node_room : (with_node g t).room ≡ g.room
+  unfolding with_node one_more
+  with_node_room = go (has_name g.names t) where
     go : (b : Bool) → (cond b g (one_more g t)).room ≡ g.room
     go true = refl
     go false = refl
 
 -- one that is there stays
-pub with_name_there : (g : NamesInGroups) (t k : ℕ) → k < length g.names → name_at g k ≡ t → g ≡ with_name g t
-unfolding with_name has_name lists
-with_name_there g t k below is = sym (cond-true (has_name g.names t) g (one_more g t) (lists_at g.names t k below is))
+pub with_node_there : (g : NamesInGroups) (t k : ℕ) → k < length g.names → name_at g k ≡ t → g ≡ with_node g t
+unfolding with_node has_name lists
+with_node_there g t k below is = sym (cond-true (has_name g.names t) g (one_more g t) (lists_at g.names t k below is))
 
 -- nobody committed who is not named
 pub none_committed : (entries : List Entry) (t : ℕ) → lists (names_of entries) t ≡ false → commits entries t ≡ false
@@ -208,7 +207,7 @@ unfolding names_of has_arrow
 named_known entry older g sound labels known same =
     let t = (actor entry.0).0 in
     record {
-      names = labels.names ∙ sym (ap (λ (u : Txn). Named.with_name (Named.with_name (names_of older) t) u.0) same ∙ ap (λ l. Named.with_name l t) (with_old (names_of older) t known) ∙ with_old (names_of older) t known);
+      names = labels.names ∙ sym (ap (λ (u : Txn). with_name (with_name (names_of older) t) u.0) same ∙ ap (λ l. with_name l t) (with_old (names_of older) t known) ∙ with_old (names_of older) t known);
       of_entries = of_more entry older g (of_labels older g labels);
       joined_before = respect_grown older g g labels (record { more = omega arith; names = λ k below. refl; stay = λ i j is_i is_j one. one }) sound;
       joined_now = λ u v h i j is_i is_j name_i name_j. elim (or_cases (eqb t u && eqb (partner entry.0).0 v) false h) [
@@ -222,47 +221,47 @@ named_known entry older g sound labels known same =
     }
 
 -- two who are named and joined
-unlisted_before : (names others : List ℕ) (a b : ℕ) → names ≡ others → lists (Named.with_name names a) b ≡ false → lists others b ≡ false
+unlisted_before : (names others : List ℕ) (a b : ℕ) → names ≡ others → lists (with_name names a) b ≡ false → lists others b ≡ false
 unlisted_before names others a b same new = go (lists names b) refl where
   go : (c : Bool) → lists names b ≡ c → lists others b ≡ false
   go false is = ap (λ l. lists l b) (sym same) ∙ is
   go true is = absurd (false≢true (sym new ∙ names_more names a b ∙ ap (λ c. c || eqb a b) is))
 
 module _ (entry : Entry) (older : List Entry) (g first second after : NamesInGroups) (t u i j : ℕ) (sound : IsConsistent g) (labels : AreLabels older g) (is_t : t ≡ (actor entry.0).0) (is_u : u ≡ (partner entry.0).0)
-    (is_first : first ≡ with_name g t) (sound_first : IsConsistent first) (is_second : second ≡ with_name first u) (joined : AreJoined (entry ∷ older) second after) (sound_after : IsConsistent after)
+    (is_first : first ≡ with_node g t) (sound_first : IsConsistent first) (is_second : second ≡ with_node first u) (joined : AreJoined (entry ∷ older) second after) (sound_after : IsConsistent after)
     (is_i : i < length after.names) (is_j : j < length after.names) (name_i : name_at after i ≡ t) (name_j : name_at after j ≡ u) (one : label_at after i ≡ label_at after j) where
   grown_first : HaveGrown g first
-  grown_first = subst (HaveGrown g) (sym is_first) (with_name_grown g sound t)
+  grown_first = subst (HaveGrown g) (sym is_first) (with_node_grown g sound t)
 
   grown_second : HaveGrown first second
-  grown_second = subst (HaveGrown first) (sym is_second) (with_name_grown first sound_first u)
+  grown_second = subst (HaveGrown first) (sym is_second) (with_node_grown first sound_first u)
 
   pub pair_grown : HaveGrown g after
   pair_grown = grown_trans g first after grown_first (grown_trans first second after grown_second (joined_grown (entry ∷ older) second after joined))
 
-  names_first : first.names ≡ Named.with_name g.names t
-  names_first = ap (λ (h : NamesInGroups). h.names) is_first ∙ with_name_names g sound t
+  names_first : first.names ≡ with_name g.names t
+  names_first = ap (λ (h : NamesInGroups). h.names) is_first ∙ with_node_names g sound t
 
-  names_second : second.names ≡ Named.with_name first.names u
-  names_second = ap (λ (h : NamesInGroups). h.names) is_second ∙ with_name_names first sound_first u
+  names_second : second.names ≡ with_name first.names u
+  names_second = ap (λ (h : NamesInGroups). h.names) is_second ∙ with_node_names first sound_first u
 
   of_second : AreOfEntries (entry ∷ older) second
   of_second =
-      let at_first = subst (AreOfEntries (entry ∷ older)) (sym is_first) (with_name_of g sound t (entry ∷ older) (of_more entry older g (of_labels older g labels))) in
-      subst (AreOfEntries (entry ∷ older)) (sym is_second) (with_name_of first sound_first u (entry ∷ older) at_first)
+      let at_first = subst (AreOfEntries (entry ∷ older)) (sym is_first) (with_node_of g sound t (entry ∷ older) (of_more entry older g (of_labels older g labels))) in
+      subst (AreOfEntries (entry ∷ older)) (sym is_second) (with_node_of first sound_first u (entry ∷ older) at_first)
 
   flagged_second : AreFlagged older second
   unfolding lists has_name
   flagged_second =
       let none_t : has_name g.names t ≡ false → commits older t ≡ false = λ new. none_committed older t (ap (λ l. lists l t) (sym labels.names) ∙ new) in
       let none_u : has_name first.names u ≡ false → commits older u ≡ false = λ new. none_committed older u (unlisted_before g.names (names_of older) t u labels.names (ap (λ l. lists l u) (sym names_first) ∙ new)) in
-      let at_first = subst (AreFlagged older) (sym is_first) (with_name_flagged g sound t older none_t (flags_by_labels older g labels)) in
-      subst (AreFlagged older) (sym is_second) (with_name_flagged first sound_first u older none_u at_first)
+      let at_first = subst (AreFlagged older) (sym is_first) (with_node_flagged g sound t older none_t (flags_by_labels older g labels)) in
+      subst (AreFlagged older) (sym is_second) (with_node_flagged first sound_first u older none_u at_first)
 
   pub named_pair : AreNamed (entry ∷ older) older ((actor entry.0).0, (partner entry.0).0) after
   unfolding names_of has_arrow
   named_pair = record {
-    names = joined.names ∙ names_second ∙ ap (λ l. Named.with_name l u) names_first ∙ (λ k. Named.with_name (Named.with_name (labels.names k) (is_t k)) (is_u k));
+    names = joined.names ∙ names_second ∙ ap (λ l. with_name l u) names_first ∙ (λ k. with_name (with_name (labels.names k) (is_t k)) (is_u k));
     of_entries = joined.of_entries of_second;
     joined_before = respect_grown older g after labels pair_grown sound_after;
     joined_now = λ v w h k m is_k is_m name_k name_m. elim (or_cases (eqb (actor entry.0).0 v && eqb (partner entry.0).0 w) false h) [

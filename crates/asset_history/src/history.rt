@@ -47,9 +47,9 @@ impl History {
     ghost use Rattle.asset_history.specs.Sharing.{first_of, group_committed};
     ghost use Rattle.asset_names.specs.Sets.{HasNoDouble};
     ghost use Rattle.asset_names.specs.Answers.{IsLegal};
-    ghost use Rattle.asset_names.specs.Steps.{Entry};
+    ghost use Rattle.asset_names.specs.Steps.{Entry, objects_of};
     ghost use Rattle.asset_names.specs.declared.replies.Outcome.TheVariants.{Answer};
-    ghost use Rattle.asset_entries.specs.Recorded.{objects_of, opened, answer_to, with_entry};
+    ghost use Rattle.asset_entries.specs.Recorded.{opened, answer_to, with_entry};
 
     /// Returns a history of these opening values without entries, with room for `capacity` of them, for the names of twice as
     /// many transactions, and for the users of each object. No object is given twice. It takes that room here, and fails if memory

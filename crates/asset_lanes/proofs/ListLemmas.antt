@@ -8,7 +8,7 @@ use Rattle.asset_entries.proofs.EntryLemmas.{next_entry}
 use Rattle.asset_deletion.specs.Grouping.{Grouping}
 use Rattle.asset_sources.specs.Sourced.{source_at}
 use Rattle.asset_sources.proofs.WalkLemmas.{older_length}
-use Rattle.asset_history.specs.Named.{with_name}
+use Rattle.asset_names.specs.Arrows.{with_name}
 use Rattle.asset_lanes.specs.Uses.{with_names}
 use Rattle.asset_lanes.specs.Marks.{mark_of, mark_list, marks}
 use Rattle.asset_lanes.specs.Arrows.{arrow_of, arrow_list, arrows_among}

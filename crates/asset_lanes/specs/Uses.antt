@@ -3,7 +3,7 @@ use Rattle.std.specs.Prelude.{ℕ, nat_eq, List, [], ◌∷◌, length, map, pos
 use Rattle.asset_names.specs.Steps.{Entry}
 use Rattle.asset_names.specs.Groups.{actor}
 use Rattle.asset_buckets.specs.Bucketed.{buckets_of}
-use Rattle.asset_history.specs.Named.{with_name}
+use Rattle.asset_names.specs.Arrows.{with_name}
 
 -- names with more of them, each once
 unfoldable pub with_names : List ℕ → List ℕ → List ℕ

@@ -2,7 +2,7 @@
 
 ghost use Rattle.std.specs.Prelude.{◌≡◌, [], reverse, slice_get, Some, IfOk, OnOk};
 ghost use Rattle.asset_names.specs.Steps.{Entry};
-ghost use Rattle.asset_history.specs.Named.{with_name};
+ghost use Rattle.asset_names.specs.Arrows.{with_name};
 ghost use Rattle.asset_lanes.specs.Uses.{with_names, index_in, asker_of, askers, uses, uses_of};
 
 use asset_buckets::Buckets;

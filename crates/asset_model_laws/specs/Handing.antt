@@ -16,9 +16,9 @@ use Rattle.asset_model_laws.specs.Owners.{is_on, responsible}
 unfoldable pub is_anothers : Txn → Entry → Bool
 is_anothers u entry = not ((actor entry.0).0 == u.0)
 
--- At an entry of the history t has handed over to u what it did on these objects, and u has committed. For each operation on one of
--- them for which t was responsible right before that entry, u was responsible right after it. For each operation for which u was
--- responsible then, it is responsible now, and after each legal history that goes on from here.
+-- At an entry of the history t has handed over to u what it did on these objects, and u has committed. For each operation on one
+-- of them for which t was responsible right before that entry, u was responsible right after it. For each operation for which u
+-- was responsible then, it is responsible now, and after each legal history that goes on from here.
 pub record StandsAs (opening : Opening) (t u : Txn) (obs : ObSet) (entries : List Entry) : Type 0 where
   pub newer : List Entry
   pub older : List Entry

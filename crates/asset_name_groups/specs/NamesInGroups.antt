@@ -24,8 +24,8 @@ unfoldable pub one_more : NamesInGroups → ℕ → NamesInGroups
 one_more groups t = record { names = groups.names ++ t ∷ []; labels = groups.labels ++ length groups.labels ∷ []; flags = groups.flags ++ false ∷ []; room = groups.room }
 
 -- as they are if they have the name, or else with one more
-unfoldable pub with_name : NamesInGroups → ℕ → NamesInGroups
-with_name groups t = cond (has_name groups.names t) groups (one_more groups t)
+unfoldable pub with_node : NamesInGroups → ℕ → NamesInGroups
+with_node groups t = cond (has_name groups.names t) groups (one_more groups t)
 
 -- whether the group of a node is flagged
 unfoldable pub flag_at : List Bool → ℕ → Bool

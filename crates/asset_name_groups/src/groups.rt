@@ -57,7 +57,7 @@ impl Model for NameGroups {
 
 impl NameGroups {
     ghost use Rattle.std.specs.Prelude.{◌≡◌, ◌+◌, ◌<◌, ◌≤◌, ◌^◌, false, length, slice_index, IfOk, IfSome, IfNone};
-    ghost use Rattle.asset_name_groups.specs.NamesInGroups.{flag_at, has_name, none_named, one_more, with_flag, with_join, with_name, IsConsistent};
+    ghost use Rattle.asset_name_groups.specs.NamesInGroups.{flag_at, has_name, none_named, one_more, with_flag, with_join, with_node, IsConsistent};
 
     /// Returns groups of no names, with room for `room` names. It takes 21 bytes for each name and 4 more, and fails if memory runs
     /// out or `room` is above `MOST_NAMES`.
@@ -118,7 +118,7 @@ impl NameGroups {
     #[inline(always)]
     pub fn node_of(&mut self, t: u64) -> usize
         requires { has_name self.old.names t ≡ false → length self.old.names < self.old.room }
-        ensures named { self.new ≡ with_name self.old t }
+        ensures named { self.new ≡ with_node self.old t }
         ensures node { (result < length self.new.names) × (slice_index self.new.names result ≡ t) }
     {
         match self.find(t) {

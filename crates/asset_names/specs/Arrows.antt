@@ -1,5 +1,5 @@
 -- Arrows between names, and what is reached along them.
-use Rattle.std.specs.Prelude.{ℕ, Bool, ◌==◌, ◌&&◌, ◌||◌, List, [], ◌∷◌, Contains, filter}
+use Rattle.std.specs.Prelude.{ℕ, Bool, ◌==◌, ◌&&◌, ◌||◌, cond, List, [], ◌∷◌, ◌++◌, Contains, filter}
 use Rattle.std.specs.List.{list_any}
 
 -- an arrow from its first name to its second
@@ -9,6 +9,10 @@ Arrow = ℕ × ℕ
 -- whether the name is listed
 unfoldable pub lists : List ℕ → ℕ → Bool
 lists names n = list_any (λ m. m == n) names
+
+-- the names with one more, unless it is listed
+unfoldable pub with_name : List ℕ → ℕ → List ℕ
+with_name names n = cond (lists names n) names (names ++ n ∷ [])
 
 -- whether an arrow leads from a to b
 unfoldable pub has_arrow : List Arrow → ℕ → ℕ → Bool

@@ -1,5 +1,5 @@
 -- Entries of a history, and which of their steps took effect.
-use Rattle.std.specs.Prelude.{ℕ, ℤ, pos, Bool, true, false, cond, ◌==◌, List, [], ◌∷◌, flat_map, Option, None}
+use Rattle.std.specs.Prelude.{ℕ, ℤ, pos, Bool, true, false, cond, ◌==◌, List, [], ◌∷◌, map, flat_map, Option, None}
 use Rattle.asset_names.specs.declared.names.Txn.{Txn}
 use Rattle.asset_names.specs.declared.names.Ob.{Ob}
 use Rattle.asset_names.specs.declared.steps.Step.{Step}
@@ -10,6 +10,10 @@ use Rattle.asset_names.specs.declared.replies.Reply.TheVariants as Reply'
 -- the objects that exist, each with its opening value
 abbrev pub Opening : Type 0
 Opening = List (Ob × ℤ)
+
+-- the objects that exist
+abbrev pub objects_of : Opening → List ℕ
+objects_of opening = map (λ (pair : Ob × ℤ). pair.0.0) opening
 
 -- a step and the reply that it got
 abbrev pub Entry : Type 0

@@ -12,7 +12,7 @@ use Rattle.std.proofs.lemmas.Int.{int_wrap_fits}
 use Rattle.asset_names.specs.declared.names.Ob.{Ob}
 use Rattle.asset_names.specs.Arrows.{lists}
 use Rattle.asset_names.specs.Sets.{numbers, HasNoDouble}
-use Rattle.asset_names.specs.Steps.{Opening}
+use Rattle.asset_names.specs.Steps.{Opening, objects_of}
 use Rattle.asset_names.specs.Operations.{opening_at}
 use Rattle.asset_names.proofs.Common.{eqb-flip}
 use Rattle.asset_names.proofs.DoubleLemmas.{no_double_push, lists_numbers}
@@ -20,7 +20,6 @@ use Rattle.asset_records.specs.declared.records.Record.{Record}
 use Rattle.asset_records.specs.Listed.{on, ChangesOn, is_owned as owned}
 use Rattle.asset_records.proofs.ListedLemmas.{read_more}
 use Rattle.asset_objects.specs.Cells.{Cell, ObjectTable, named_in, number_of, cells, fresh, opened, shown, value_in, has_object, is_owned, change_at, change_each, updates_by}
-use Rattle.asset_objects.specs.Faults.{objects_of}
 use Rattle.asset_records.specs.Listed.{records_by, lists_in}
 use Rattle.asset_objects.specs.Placed.{word, base_of, grown, recorded_cell, value_at, cell_at, rows_from, object_table, objects_in, ObjectParts, IsOpened}
 use Rattle.asset_names.specs.Numbered.{number_in}

@@ -42,7 +42,8 @@ impl Objects {
     ghost use Rattle.asset_names.specs.Sets.{HasNoDouble};
     ghost use Rattle.asset_names.specs.InSet.{in_set};
     ghost use Rattle.asset_objects.specs.Cells.{Cell, cells, opened, value_in, has_object, has_update, written, increased, undone, settled, handed_cell, change_at, change_each, change_where, updates_by, standing};
-    ghost use Rattle.asset_objects.specs.Faults.{objects_of, IsObjectsFault};
+    ghost use Rattle.asset_objects.specs.Faults.{IsObjectsFault};
+    ghost use Rattle.asset_names.specs.Steps.{objects_of};
 
     /// Returns the objects at their opening values, with no update yet.
     ///

@@ -5,7 +5,7 @@ ghost use Rattle.asset_names.specs.Sets.{HasNoDouble};
 ghost use Rattle.slab.specs.Slab.{slab_len};
 ghost use Rattle.asset_seats.specs.Seated.{Seated, seat};
 ghost use Rattle.asset_records.specs.Listed.{lists_in, IsTied};
-ghost use Rattle.asset_objects.specs.Faults.{objects_of};
+ghost use Rattle.asset_names.specs.Steps.{objects_of};
 ghost use Rattle.asset_objects.specs.Placed.{IsOpened};
 
 use asset_names::Ob;

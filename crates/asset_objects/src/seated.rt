@@ -58,7 +58,7 @@ impl SeatedObjects {
     ghost use Rattle.asset_names.specs.declared.names.Txn.{Txn as Name};
     ghost use Rattle.asset_names.specs.declared.names.Ob.{Ob as Object};
     ghost use Rattle.asset_names.specs.declared.statuses.End.{End};
-    ghost use Rattle.asset_names.specs.Steps.{Opening};
+    ghost use Rattle.asset_names.specs.Steps.{Opening, objects_of};
     ghost use Rattle.asset_names.specs.Sets.{HasNoDouble};
     ghost use Rattle.asset_names.specs.InSet.{in_set, only_in};
     ghost use Rattle.asset_names.specs.Numbered.{number_in};
@@ -66,7 +66,7 @@ impl SeatedObjects {
     ghost use Rattle.asset_records.specs.Listed.{lists_in, seat_column, HasNone, IsNoMore};
     ghost use Rattle.asset_objects.specs.Cells.{Cell, cells, opened, value_in, has_object, has_update, written, increased, ended, undone, settled, handed_cell, change_at, change_each, change_where, updates_by, standing};
     ghost use Rattle.asset_objects.specs.Placed.{objects_in, IsOpened, IsTied, HasRoom};
-    ghost use Rattle.asset_objects.specs.Faults.{objects_of, IsObjectsFault};
+    ghost use Rattle.asset_objects.specs.Faults.{IsObjectsFault};
 
     /// Returns the objects at their opening values, in the order of the opening, with no update yet.
     ///

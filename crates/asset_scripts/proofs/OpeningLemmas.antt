@@ -4,13 +4,12 @@ use Rattle.std.specs.Prelude.{ℤ, Some, is_some, option_map, find}
 use Rattle.std.specs.List.{list_any}
 use Rattle.std.proofs.lemmas.List.{map-append}
 use Rattle.asset_names.specs.declared.names.Ob.{Ob}
-use Rattle.asset_names.specs.Steps.{Opening}
+use Rattle.asset_names.specs.Steps.{Opening, objects_of}
 use Rattle.asset_names.specs.Arrows.{lists}
 use Rattle.asset_names.specs.Sets.{HasNoDouble}
 use Rattle.asset_names.specs.Operations.{exists, opening_at}
 use Rattle.asset_names.proofs.DoubleLemmas.{no_double_push}
 use Rattle.asset_names.proofs.Common.{eqb-flip}
-use Rattle.asset_entries.specs.Recorded.{objects_of}
 
 -- an object exists if it comes first or later
 listed_first : (pair : Ob × ℤ) (opening : Opening) (x : ℕ) (here : Bool) → is_some (option_map (λ (pair : Ob × ℤ). pair.1) (find (λ (pair : Ob × ℤ). eqb pair.0.0 x) opening)) ≡ list_any (λ (pair : Ob × ℤ). eqb pair.0.0 x) opening

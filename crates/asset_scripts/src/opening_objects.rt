@@ -31,7 +31,7 @@ impl OpeningObjects {
     ghost use Rattle.std.specs.Bool.{OnTrue, OnFalse};
     ghost use Rattle.asset_names.specs.Sets.{HasNoDouble};
     ghost use Rattle.asset_names.specs.Operations.{exists};
-    ghost use Rattle.asset_entries.specs.Recorded.{objects_of};
+    ghost use Rattle.asset_names.specs.Steps.{objects_of};
 
     /// Returns an opening without objects. Takes no memory.
     pub fn new(alloc: Global) -> OpeningObjects

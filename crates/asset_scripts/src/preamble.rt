@@ -1,7 +1,7 @@
 //! The object lines, which stand before the first step.
 ghost use Rattle.std.specs.Prelude.{◌≡◌, ℕ, List, Bool, ◌+◌, ◌^◌, ◌<◌, ◌≤◌, [], length, IfOk, OnOk, IfErr};
 ghost use Rattle.asset_names.specs.Sets.{HasNoDouble};
-ghost use Rattle.asset_entries.specs.Recorded.{objects_of};
+ghost use Rattle.asset_names.specs.Steps.{objects_of};
 ghost use Rattle.asset_grammar.specs.Grammar.{line_of, said_as};
 ghost use Rattle.asset_grammar.specs.Lines.{lines};
 ghost use Rattle.asset_scripts.specs.Preamble.{beginning, begun_at, TakesLine};

@@ -12,7 +12,7 @@ use Rattle.asset_names.specs.declared.steps.Step.TheVariants.{Commit}
 use Rattle.asset_names.specs.declared.replies.Reply.{Reply}
 use Rattle.asset_names.specs.declared.replies.Reply.TheVariants as Reply'
 use Rattle.asset_names.specs.declared.replies.Outcome.TheVariants.{Answer}
-use Rattle.asset_names.specs.Arrows.{Arrow, lists, has_arrow}
+use Rattle.asset_names.specs.Arrows.{Arrow, lists, has_arrow, with_name}
 use Rattle.asset_names.specs.Steps.{Opening, Entry, takes_effect, applied}
 use Rattle.asset_names.specs.Endings.{end_of, live}
 use Rattle.asset_names.specs.Groups.{actor, partner, joins, was_committed}
@@ -27,7 +27,6 @@ use Rattle.asset_entries.specs.Committing.{committer, passes, has_commit, commit
 use Rattle.asset_entries.proofs.EntryLemmas.{next_entry}
 use Rattle.asset_history.specs.Uses.{partners}
 use Rattle.asset_meetings.specs.Meetings.{join_arrows}
-use Rattle.asset_history.specs.Named.{with_name}
 use Rattle.asset_history.proofs.DeadLemmas.{committed_by_member, member_committed, committed_after, committed_stays}
 use Rattle.asset_history.proofs.NameLemmas.{with_new, with_old}
 use Rattle.asset_serial.specs.Answered.{with_answered, answered_names}

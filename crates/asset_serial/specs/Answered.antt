@@ -5,7 +5,7 @@ use Rattle.asset_names.specs.declared.names.Txn.{Txn}
 use Rattle.asset_names.specs.Steps.{Entry}
 use Rattle.asset_names.specs.Groups.{actor}
 use Rattle.asset_entries.specs.Committing.{committer}
-use Rattle.asset_history.specs.Named.{with_name}
+use Rattle.asset_names.specs.Arrows.{with_name}
 use Rattle.asset_buckets.specs.Bucketed.{buckets_of}
 
 -- the names with one more, if there is one and it is not listed

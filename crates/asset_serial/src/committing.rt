@@ -1,7 +1,7 @@
 //! The transactions whose commits were answered, in the order of these.
 
 ghost use Rattle.std.specs.Prelude.{◌≡◌, [], OnOk, IfOk};
-ghost use Rattle.asset_history.specs.Named.{with_name};
+ghost use Rattle.asset_names.specs.Arrows.{with_name};
 ghost use Rattle.asset_serial.specs.Answered.{answered_names};
 
 use asset_history::{History, committed_at};

@@ -11,7 +11,7 @@ use Rattle.asset_names.specs.declared.steps.Step.{Step}
 use Rattle.asset_names.specs.declared.steps.Step.TheVariants.{Initiate, Begin, Read, Write, Add, Complete, Permit, PermitAny, Delegate, Depend, Commit, Abort, WaitFor}
 use Rattle.asset_names.specs.declared.replies.Reply.{Reply}
 use Rattle.asset_names.specs.declared.replies.Reply.TheVariants as Reply'
-use Rattle.asset_names.specs.Steps.{Opening, Entry, takes_effect, applied}
+use Rattle.asset_names.specs.Steps.{Opening, Entry, takes_effect, applied, objects_of}
 use Rattle.asset_names.specs.Operations.{value_if_any}
 use Rattle.asset_names.specs.Orderly.{IsOrderly}
 use Rattle.asset_names.specs.Sources.{source, added, IsAlone, IsOwnOrCommitted, AreOwnOrCommitted}
@@ -21,7 +21,7 @@ use Rattle.asset_laws.specs.Renumbered.{source_number, writing, reading, renumbe
 use Rattle.asset_laws.proofs.GroupLemmas.{legal_rest}
 use Rattle.asset_laws.proofs.RenumberLemmas.{value_is_source, renumbered_legal, effect_same}
 use Rattle.asset_laws.proofs.SourceLemmas.{alone_source}
-use Rattle.asset_entries.specs.Recorded.{Recorded, objects_of}
+use Rattle.asset_entries.specs.Recorded.{Recorded}
 use Rattle.asset_entries.proofs.EntryLemmas.{next_entry, between}
 use Rattle.asset_ends.specs.Shows.{Shows}
 use Rattle.asset_ends.specs.Standing.{Standing, values_of}

@@ -1,7 +1,8 @@
 //! What stands when a script has ended.
 ghost use Rattle.std.specs.Prelude.{◌≡◌, ◌+◌, ◌^◌, ◌<◌, ◌≤◌, length, IfOk, IfErr};
 ghost use Rattle.asset_names.specs.Sets.{HasNoDouble};
-ghost use Rattle.asset_core.specs.OpenFaults.{objects_of, IsCapacity};
+ghost use Rattle.asset_core.specs.OpenFaults.{IsCapacity};
+ghost use Rattle.asset_names.specs.Steps.{objects_of};
 ghost use Rattle.asset_core.specs.Pending.{facility_of};
 ghost use Rattle.asset_scripts.specs.Preamble.{begun_at};
 ghost use Rattle.asset_scripts.specs.Transfers.{input_limit};

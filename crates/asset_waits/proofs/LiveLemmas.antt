@@ -8,7 +8,7 @@ use Rattle.asset_names.specs.declared.names.Txn.{Txn}
 use Rattle.asset_names.specs.declared.steps.Step.{Step}
 use Rattle.asset_names.specs.declared.steps.Step.TheVariants.{Initiate}
 use Rattle.asset_names.specs.declared.replies.Reply.{Reply}
-use Rattle.asset_names.specs.Arrows.{lists}
+use Rattle.asset_names.specs.Arrows.{lists, with_name}
 use Rattle.asset_names.specs.Steps.{Opening, Entry, applied, takes_effect, initiated, initiated_by}
 use Rattle.asset_names.specs.Endings.{live}
 use Rattle.asset_names.specs.Answers.{IsLegal}
@@ -19,7 +19,7 @@ use Rattle.asset_names.proofs.LegalLemmas.{legal_orderly}
 use Rattle.asset_entries.proofs.EntryLemmas.{next_entry, between}
 use Rattle.asset_ends.proofs.EnrolledLemmas.{lists_filter}
 use Rattle.asset_ends.proofs.HistoryLemmas.{lists_reverse, reverse-cons}
-use Rattle.asset_waits.specs.Live.{initiated_if, initiated_in, with_name, with_live, live_among}
+use Rattle.asset_waits.specs.Live.{initiated_if, initiated_in, with_live, live_among}
 
 -- an insertion adds a name that is not there
 pub inserted : (names : List ℕ) (n : ℕ) → insert_key eqb names n ≡ with_name names n

@@ -1,9 +1,9 @@
 -- The live transactions, found entry by entry.
-use Rattle.std.specs.Prelude.{ℕ, Bool, true, cond, List, [], ◌∷◌, ◌++◌, Option, Some, None, filter, reverse}
+use Rattle.std.specs.Prelude.{ℕ, Bool, true, cond, List, [], Option, Some, None, filter, reverse}
 use Rattle.asset_names.specs.declared.names.Txn.{Txn}
 use Rattle.asset_names.specs.declared.steps.Step.{Step}
 use Rattle.asset_names.specs.declared.steps.Step.TheVariants.{Initiate}
-use Rattle.asset_names.specs.Arrows.{lists}
+use Rattle.asset_names.specs.Arrows.{with_name}
 use Rattle.asset_names.specs.Steps.{Entry, takes_effect, initiated}
 use Rattle.asset_names.specs.Endings.{live}
 
@@ -15,10 +15,6 @@ initiated_if effect step = None
 -- the transaction that an entry initiated, if it did
 unfoldable pub initiated_in : Entry → Option Txn
 initiated_in entry = initiated_if (takes_effect entry.0 entry.1) entry.0
-
--- the names with one more, unless it is listed
-unfoldable pub with_name : List ℕ → ℕ → List ℕ
-with_name names n = cond (lists names n) names (names ++ n ∷ [])
 
 -- the names with the transaction that was initiated, if there is one and it is live
 unfoldable pub with_live : List Step → List ℕ → Option Txn → List ℕ

@@ -3,7 +3,8 @@
 ghost use Rattle.std.specs.Prelude.{◌≡◌, [], reverse, slice_get, Some, IfOk, OnOk};
 ghost use Rattle.asset_names.specs.Steps.{Entry, applied};
 ghost use Rattle.asset_names.specs.Endings.{live};
-ghost use Rattle.asset_waits.specs.Live.{initiated_if, initiated_in, with_live, with_name};
+ghost use Rattle.asset_waits.specs.Live.{initiated_if, initiated_in, with_live};
+ghost use Rattle.asset_names.specs.Arrows.{with_name};
 ghost use Rattle.asset_waits.specs.Waiting.{live_names};
 
 use asset_core::Core;

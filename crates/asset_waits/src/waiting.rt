@@ -35,7 +35,11 @@ pub(crate) fn unfinished_of(alloc: Global, core: &mut Core, t: Txn) -> Result<Ve
 }
 
 /// Returns the live sources of the class of `t` outside it, rising, or `NoMemory` if memory runs out.
-pub(crate) fn outside_sources_of(alloc: Global, core: &mut Core, t: Txn) -> Result<Vec<u64>, NoMemory>
+pub(crate) fn outside_sources_of(
+    alloc: Global,
+    core: &mut Core,
+    t: Txn,
+) -> Result<Vec<u64>, NoMemory>
     ensures named { IfOk result (λ names. names.items ≡ outside_sources_of (applied core.old.history.entries) t.0) }
     ensures same { core.new ≡ core.old }
 {

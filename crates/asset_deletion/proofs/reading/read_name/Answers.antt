@@ -1,6 +1,6 @@
 use Rattle.std.proofs.Common.{get_or, take, sym, ◌∙◌}
 use Rattle.std.proofs.lemmas.List.{take_more}
-use Rattle.asset_history.specs.Named.{with_name}
+use Rattle.asset_names.specs.Arrows.{with_name}
 use Rattle.asset_history.proofs.NameLemmas.{with_new}
 use Rattle.asset_deletion.proofs.NameLemmas.{inserted}
 use Rattle.asset_deletion.proofs.ReadLemmas.{next_is_new}

@@ -1,8 +1,7 @@
 use Rattle.std.proofs.Common.{subst, sym, []}
 use Rattle.std.specs.Prelude.{IfOk}
 use Rattle.asset_names.specs.Sets.{HasNoDouble}
-use Rattle.asset_names.specs.Steps.{Opening, applied}
-use Rattle.asset_entries.specs.Recorded.{objects_of}
+use Rattle.asset_names.specs.Steps.{Opening, applied, objects_of}
 use Rattle.asset_ends.specs.Shows.{Shows}
 use Rattle.asset_ends.specs.Standing.{values_of}
 use Rattle.asset_lanes.proofs.walking.tables_before.Goals as goal

@@ -3,10 +3,9 @@ use Rattle.std.specs.Prelude.{ℤ}
 use Rattle.std.proofs.lemmas.Int.{to_z-of_z}
 use Rattle.std.proofs.lemmas.List.{take_more}
 use Rattle.asset_names.specs.declared.names.Ob.{Ob}
-use Rattle.asset_names.specs.Steps.{Opening}
+use Rattle.asset_names.specs.Steps.{Opening, objects_of}
 use Rattle.asset_names.specs.Sets.{HasNoDouble, twice}
 use Rattle.asset_records.specs.Listed.{lists_in}
-use Rattle.asset_objects.specs.Faults.{objects_of}
 use Rattle.asset_objects.specs.Placed.{IsOpened, word}
 use Rattle.asset_objects.proofs.PlacedLemmas.{opened_nothing, opened_more, new_pair}
 use Rattle.asset_objects.proofs.placed.place_all.Goals as goal

@@ -3,7 +3,7 @@ use Rattle.asset_seats.specs.Seated.{Seated, seat}
 use Rattle.asset_names.specs.Sets.{HasNoDouble}
 use Rattle.slab.specs.Slab.{slab_len}
 use Rattle.asset_records.specs.Listed.{lists_in, IsTied}
-use Rattle.asset_objects.specs.Faults.{objects_of}
+use Rattle.asset_names.specs.Steps.{objects_of}
 use Rattle.asset_objects.specs.Placed.{IsOpened}
 use Rattle.asset_objects.proofs.placed.place_all.Given as goal
 

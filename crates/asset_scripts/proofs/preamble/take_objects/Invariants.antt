@@ -1,6 +1,6 @@
 use Rattle.std.proofs.Common.{◌≡◌, ◌+◌, [], length}
 use Rattle.asset_names.specs.Sets.{HasNoDouble}
-use Rattle.asset_entries.specs.Recorded.{objects_of}
+use Rattle.asset_names.specs.Steps.{objects_of}
 use Rattle.asset_grammar.specs.Lines.{lines}
 use Rattle.asset_scripts.specs.Preamble.{beginning}
 use Rattle.asset_scripts.proofs.preamble.take_objects.Given as goal

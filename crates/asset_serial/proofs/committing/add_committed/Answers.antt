@@ -1,6 +1,6 @@
 use Rattle.std.proofs.Common.{◌<◌, length, reverse, sym, ◌∙◌, ap, arith}
 use Rattle.std.proofs.lemmas.List.{length-reverse}
-use Rattle.asset_history.specs.Named.{with_name}
+use Rattle.asset_names.specs.Arrows.{with_name}
 use Rattle.asset_serial.specs.Answered.{answered_names}
 use Rattle.asset_serial.proofs.AnsweredLemmas.{answer_seen, no_answer_seen}
 use Rattle.asset_serial.proofs.committing.add_committed.Goals as goal

@@ -1,9 +1,8 @@
 use Rattle.std.proofs.Common.{[], sym, ap, ◌∙◌, subst}
 use Rattle.std.specs.Prelude.{IfOk}
 use Rattle.asset_names.specs.Sets.{HasNoDouble}
-use Rattle.asset_names.specs.Steps.{Opening, applied}
+use Rattle.asset_names.specs.Steps.{Opening, applied, objects_of}
 use Rattle.asset_laws.specs.Renumbered.{renumbered, zeroed}
-use Rattle.asset_entries.specs.Recorded.{objects_of}
 use Rattle.asset_ends.specs.Shows.{Shows}
 use Rattle.asset_ends.specs.Standing.{values_of}
 use Rattle.asset_sources.proofs.WalkLemmas.{objects_zeroed}
