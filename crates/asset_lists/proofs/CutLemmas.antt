@@ -7,8 +7,8 @@ use Rattle.asset_lists.specs.declared.rows.Place.{Place}
 use Rattle.asset_lists.specs.Parted.{Parted, part_of, IsAt, IsChangedAt}
 use Rattle.asset_lists.specs.Placed.{row_at, keys_of, place_at, no_place, seen, swapped, IsValid, IsSwapped}
 use Rattle.asset_lists.proofs.RowLemmas.{some_part, row_set, row_again}
-use Rattle.asset_lists.proofs.SwapLemmas.{key_in, list_in, side, split, at_key, row_now, items_now, valid_now, changed_now, at_now}
-use Rattle.asset_lists.proofs.SectionLemmas.{in_back, back_in, kept_back}
+use Rattle.asset_lists.proofs.SwapLemmas.{key_in, list_in, at_key, stands_in, row_now, items_now, valid_now, changed_now, at_now}
+use Rattle.asset_lists.proofs.SectionLemmas.{IsIn, Moves, in_back, kept_back}
 use Rattle.asset_lists.proofs.EndLemmas.{valid_popped, changed_popped}
 use Rattle.asset_lists.proofs.Laws.{changed_twice}
 
@@ -18,9 +18,6 @@ module _ {rows : List Row} {places : List Place} (valid : IsValid rows places) {
     (moved : (i k : ℕ) → IsAt keys i k → place_at next k ≡ record (place_at places k) { position = swapped place.position (len - 1) i })
     (others : (k : ℕ) → ((i : ℕ) → IsAt keys i k → ⊥) → place_at next k ≡ place_at places k)
     (r : Row) (rest : r.keys.items ≡ take (length (refill (length row.keys.items) row.keys.items new) - 1) (refill (length row.keys.items) row.keys.items new)) (front_is : r.front ≡ row.front) (back_is : r.back ≡ row.back) where
-  mid : Row
-  mid = row_now valid view key is read row_is keys_is row.front row.back next size swaps moved others
-
   inside : x < length rows
   inside = list_in valid view key is
 
@@ -30,38 +27,39 @@ module _ {rows : List Row} {places : List Place} (valid : IsValid rows places) {
   long : length keys ≡ len
   long = ap (λ (l : List ℕ). length l) keys_is ∙ sym len_is
 
-  past : (row.front ≤ place.position) × (row.back ≤ place.position)
-  past = in_back row.front row.back place.position (side valid view key is read row_is)
-
-  fits : (row.front ≤ row.back) × (row.back ≤ length keys)
-  fits = split valid view key is read row_is keys_is
+  stands : IsIn row.front row.back place.position (length keys) Back
+  stands = stands_in valid view key is read row_is keys_is
 
   last_past : row.back ≤ len - 1
-  last_past = omega (arith, at.within, long, past.1)
+  last_past = let past = in_back row.front row.back place.position stands.here in omega (arith, at.within, long, past.1)
+
+  stays : Moves row.front row.back place.position (length keys) row.front row.back (len - 1) Back
+  stays = kept_back stands (len - 1) last_past (omega (arith, at.within, long))
+
+  mid : Row
+  mid = row_now valid view key is read row_is keys_is stays next size swaps moved others
 
   valid_mid : IsValid (set rows x mid) next
   unfolding mid
-  valid_mid = valid_now valid view key is read row_is keys_is row.front row.back next size swaps moved others fits.0 fits.1
+  valid_mid = valid_now valid view key is read row_is keys_is stays next size swaps moved others
 
   changed_mid : IsChangedAt key (some_part x Back) table (seen (set rows x mid) next)
   unfolding mid
-  changed_mid =
-      changed_now valid view key is read row_is keys_is row.front row.back next size swaps moved others Back
-      (λ i apart. kept_back place.position (len - 1) row.front row.back i fits.0 past.1 last_past apart) (back_in row.front row.back (len - 1) (omega (arith, fits.0, last_past)) last_past)
+  changed_mid = changed_now valid view key is read row_is keys_is stays next size swaps moved others
 
   mid_row : row_at (set rows x mid) x ≡ mid
   mid_row = (row_set rows x mid inside).here
 
   items_mid : length mid.keys.items ≡ len
   unfolding mid
-  items_mid = ap (λ (l : List ℕ). length l) (items_now valid view key is read row_is keys_is row.front row.back next size swaps moved others) ∙ swaps.same ∙ long
+  items_mid = ap (λ (l : List ℕ). length l) (items_now valid view key is read row_is keys_is stays next size swaps moved others) ∙ swaps.same ∙ long
 
   keys_mid : keys_of (set rows x mid) x ≡ mid.keys.items
   keys_mid = ap (λ (w : Row). w.keys.items) mid_row
 
   there : IsAt (keys_of (set rows x mid) x) (len - 1) key
   unfolding mid
-  there = subst (λ (l : List ℕ). IsAt l (len - 1) key) (sym keys_mid) (at_now valid view key is read row_is keys_is row.front row.back next size swaps moved others)
+  there = subst (λ (l : List ℕ). IsAt l (len - 1) key) (sym keys_mid) (at_now valid view key is read row_is keys_is stays next size swaps moved others)
 
   end : len - 1 + 1 ≡ length (keys_of (set rows x mid) x)
   end = omega (arith, at.within, long, ap (λ (l : List ℕ). length l) keys_mid, items_mid)

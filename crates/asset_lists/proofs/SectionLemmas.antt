@@ -111,23 +111,79 @@ sections : (f b g c i j : ℕ) → nat_lt j g ≡ nat_lt i f → nat_lt j c ≡ 
 unfolding section_in
 sections f b g c i j first second = λ t. cond (first t) Front (cond (second t) Middle Back)
 
--- a key comes from the back part to the middle part, or from there to the front part
-pub raised_once : (p f b i : ℕ) → f ≤ b → b ≤ p → (i ≡ p → ⊥) → section_in f (b + 1) (swapped p b i) ≡ section_in f b i
-raised_once p f b i fits past apart = sections f b f (b + 1) i (swapped p b i) (past_border p b f i (omega (arith, fits, past)) fits apart) (raised_border p b i past apart)
+-- the part of a list of this many keys that a position is in
+pub record IsIn (f b p size : ℕ) (section : Section) : Type 0 where
+  pub fits : f ≤ b
+  pub end : b ≤ size
+  pub within : p < size
+  pub here : section_in f b p ≡ section
 
-pub raised_again : (p f b i : ℕ) → f ≤ p → p < b → (i ≡ p → ⊥) → section_in (f + 1) b (swapped p f i) ≡ section_in f b i
-raised_again p f b i past before apart = sections f b (f + 1) b i (swapped p f i) (raised_border p f i past apart) (before_border p f b i before (omega (arith, past, before)) apart)
+-- the keys at two positions are swapped, and the borders are these then: the first key is in this part, and the others are
+-- where they were
+pub record Moves (f b p size front_now back_now q : ℕ) (section_now : Section) : Type 0 where
+  pub within : q < size
+  pub fits : front_now ≤ back_now
+  pub end : back_now ≤ size
+  pub others : (i : ℕ) → (i ≡ p → ⊥) → section_in front_now back_now (swapped p q i) ≡ section_in f b i
+  pub here : section_in front_now back_now q ≡ section_now
+
+-- a key comes from the back part to the middle part, or from there to the front part
+pub raised : {f b p size : ℕ} → IsIn f b p size Back → Moves f b p size f (b + 1) b Middle
+raised {f} {b} {p} {size} at =
+    let past = in_back f b p at.here in
+    record {
+      within = omega (arith, at.within, past.1);
+      fits = omega (arith, at.fits);
+      end = omega (arith, at.within, past.1);
+      others = λ i apart. sections f b f (b + 1) i (swapped p b i) (past_border p b f i past.0 at.fits apart) (raised_border p b i past.1 apart);
+      here = middle_in f (b + 1) b at.fits (omega arith);
+    }
+
+pub raised_again : {f b p size : ℕ} → IsIn f b p size Middle → Moves f b p size (f + 1) b f Front
+raised_again {f} {b} {p} {size} at =
+    let inside = in_middle f b p at.here in
+    record {
+      within = omega (arith, inside.0, at.within);
+      fits = omega (arith, inside.0, inside.1);
+      end = at.end;
+      others = λ i apart. sections f b (f + 1) b i (swapped p f i) (raised_border p f i inside.0 apart) (before_border p f b i inside.1 (omega (arith, inside.0, inside.1)) apart);
+      here = front_in (f + 1) b f (omega arith);
+    }
 
 -- a key comes from the front part to the middle part, or from there to the back part
-pub lowered_once : (p f b i : ℕ) → f ≤ b → p < f → (i ≡ p → ⊥) → section_in (f - 1) b (swapped p (f - 1) i) ≡ section_in f b i
-lowered_once p f b i fits before apart = sections f b (f - 1) b i (swapped p (f - 1) i) (lowered_border p f i before apart) (before_border p (f - 1) b i (omega (arith, before, fits)) (omega (arith, before, fits)) apart)
+pub lowered : {f b p size : ℕ} → IsIn f b p size Front → Moves f b p size (f - 1) b (f - 1) Middle
+lowered {f} {b} {p} {size} at =
+    let before = in_front f b p at.here in
+    record {
+      within = omega (arith, before, at.fits, at.end);
+      fits = omega (arith, at.fits);
+      end = at.end;
+      others = λ i apart. sections f b (f - 1) b i (swapped p (f - 1) i) (lowered_border p f i before apart) (before_border p (f - 1) b i (omega (arith, before, at.fits)) (omega (arith, before, at.fits)) apart);
+      here = middle_in (f - 1) b (f - 1) (omega arith) (omega (arith, at.fits, before));
+    }
 
-pub lowered_again : (p f b i : ℕ) → f ≤ p → p < b → (i ≡ p → ⊥) → section_in f (b - 1) (swapped p (b - 1) i) ≡ section_in f b i
-lowered_again p f b i past before apart = sections f b f (b - 1) i (swapped p (b - 1) i) (past_border p (b - 1) f i past (omega (arith, past, before)) apart) (lowered_border p b i before apart)
+pub lowered_again : {f b p size : ℕ} → IsIn f b p size Middle → Moves f b p size f (b - 1) (b - 1) Back
+lowered_again {f} {b} {p} {size} at =
+    let inside = in_middle f b p at.here in
+    record {
+      within = omega (arith, at.end, inside.1);
+      fits = omega (arith, inside.0, inside.1);
+      end = omega (arith, at.end);
+      others = λ i apart. sections f b f (b - 1) i (swapped p (b - 1) i) (past_border p (b - 1) f i inside.0 (omega (arith, inside.0, inside.1)) apart) (lowered_border p b i inside.1 apart);
+      here = back_in f (b - 1) (b - 1) (omega (arith, inside.0, inside.1)) (omega arith);
+    }
 
 -- two keys of the back part are swapped
-pub kept_back : (p q f b i : ℕ) → f ≤ b → b ≤ p → b ≤ q → (i ≡ p → ⊥) → section_in f b (swapped p q i) ≡ section_in f b i
-kept_back p q f b i fits first second apart = sections f b f b i (swapped p q i) (past_border p q f i (omega (arith, fits, first)) (omega (arith, fits, second)) apart) (past_border p q b i first second apart)
+pub kept_back : {f b p size : ℕ} → IsIn f b p size Back → (q : ℕ) → b ≤ q → q < size → Moves f b p size f b q Back
+kept_back {f} {b} {p} {size} at q last within =
+    let past = in_back f b p at.here in
+    record {
+      within = within;
+      fits = at.fits;
+      end = at.end;
+      others = λ i apart. sections f b f b i (swapped p q i) (past_border p q f i past.0 (omega (arith, at.fits, last)) apart) (past_border p q b i past.1 last apart);
+      here = back_in f b q (omega (arith, at.fits, last)) last;
+    }
 
 -- ---- parts up to a last one
 -- the positions of the front part

@@ -6,8 +6,9 @@ use Rattle.asset_lists.specs.declared.part.Section.{Section}
 use Rattle.asset_lists.specs.declared.rows.Row.{Row}
 use Rattle.asset_lists.specs.declared.rows.Place.{Place}
 use Rattle.asset_lists.specs.Parted.{Parted, part_of, IsAt, IsChangedAt}
-use Rattle.asset_lists.specs.Placed.{no_row, no_place, row_at, keys_of, section_in, section_at, place_at, seen, swapped, IsSplit, IsValid, IsSwapped}
+use Rattle.asset_lists.specs.Placed.{no_row, no_place, row_at, keys_of, section_at, place_at, seen, swapped, IsSplit, IsValid, IsSwapped}
 use Rattle.asset_lists.proofs.AtLemmas.{swapped_first, refilled}
+use Rattle.asset_lists.proofs.SectionLemmas.{IsIn, Moves}
 use Rattle.asset_lists.proofs.RowLemmas.{some_part, Stands, stands_at, at_within, at_position, row_set, valid_swapped, changed_swapped}
 
 -- the key is in the list, as it is seen
@@ -36,13 +37,14 @@ module _ {rows : List Row} {places : List Place} (valid : IsValid rows places) {
       keys_read : keys ≡ keys_of rows x
       keys_read = keys_is ∙ ap (λ (r : Row). r.keys.items) row_read
 
-      pub split : (row.front ≤ row.back) × (row.back ≤ length keys)
-      split =
-          let fits = subst IsSplit (sym row_read) (valid.split x) in
-          (fits.middle, subst (λ (l : List ℕ). row.back ≤ length l) (sym keys_is) fits.end)
-
       pub at_key : IsAt keys place.position key
       at_key = subst (λ (l : List ℕ). IsAt l place.position key) (sym keys_read) (subst (λ (p : Place). IsAt (keys_of rows x) p.position key) (sym place_read) stood.at)
+
+      -- where the key is by the borders
+      pub stands_in : IsIn row.front row.back place.position (length keys) section
+      stands_in =
+          let fits = subst IsSplit (sym row_read) (valid.split x) in
+          record { fits = fits.middle; end = subst (λ (l : List ℕ). row.back ≤ length l) (sym keys_is) fits.end; within = at_key.within; here = side }
 
       pub few : length keys < 2 ^ 32
       few = subst (λ (l : List ℕ). length l < 2 ^ 32) (sym keys_read) (valid.short x)
@@ -54,7 +56,7 @@ module _ {rows : List Row} {places : List Place} (valid : IsValid rows places) {
       positions i k at = at_position rows places valid x i k (subst (λ (l : List ℕ). IsAt l i k) keys_read at)
 
       -- ---- the list and the places after a swap
-      module _ {q : ℕ} (front_now back_now : ℕ) {new : List ℕ} (next : List Place) (size : length next ≡ length places) (swaps : IsSwapped place.position q keys new)
+      module _ {front_now back_now q : ℕ} {section_now : Section} (move : Moves row.front row.back place.position (length keys) front_now back_now q section_now) {new : List ℕ} (next : List Place) (size : length next ≡ length places) (swaps : IsSwapped place.position q keys new)
           (moved : (i k : ℕ) → IsAt keys i k → place_at next k ≡ record (place_at places k) { position = swapped place.position q i })
           (others : (k : ℕ) → ((i : ℕ) → IsAt keys i k → ⊥) → place_at next k ≡ place_at places k) where
         abbrev pub row_now : Row
@@ -72,18 +74,17 @@ module _ {rows : List Row} {places : List Place} (valid : IsValid rows places) {
         others_now : (k : ℕ) → ((i : ℕ) → IsAt (keys_of rows x) i k → ⊥) → place_at next k ≡ place_at places k
         others_now k apart = others k (λ i at. apart i (subst (λ (l : List ℕ). IsAt l i k) keys_read at))
 
-        pub valid_now : front_now ≤ back_now → back_now ≤ length keys → IsValid (set rows x row_now) next
-        valid_now fits within =
+        pub valid_now : IsValid (set rows x row_now) next
+        valid_now =
             valid_swapped rows places valid x row_now (set rows x row_now) next (row_set rows x row_now list_in) size place.position q swaps_now moved_now others_now
-            (record { middle = fits; end = subst (λ (n : ℕ). back_now ≤ n) (sym (ap (λ (l : List ℕ). length l) items_now ∙ swaps.same)) within })
+            (record { middle = move.fits; end = subst (λ (n : ℕ). back_now ≤ n) (sym (ap (λ (l : List ℕ). length l) items_now ∙ swaps.same)) move.end })
 
-        pub changed_now : (section_now : Section) → ((i : ℕ) → (i ≡ place.position → ⊥) → section_in front_now back_now (swapped place.position q i) ≡ section_at row i) → section_in front_now back_now q ≡ section_now
-            → IsChangedAt key (some_part x section_now) table (seen (set rows x row_now) next)
-        changed_now section_now borders here =
+        pub changed_now : IsChangedAt key (some_part x section_now) table (seen (set rows x row_now) next)
+        changed_now =
             subst (λ (t : Parted). IsChangedAt key (some_part x section_now) t (seen (set rows x row_now) next)) view
             (changed_swapped rows places valid x row_now (set rows x row_now) next (row_set rows x row_now list_in) size place.position q swaps_now moved_now others_now key section_now
             (subst (λ (l : List ℕ). IsAt l place.position key) keys_read at_key)
-            (λ i inside apart. borders i apart ∙ ap (λ (r : Row). section_at r i) row_read) here)
+            (λ i inside apart. move.others i apart ∙ ap (λ (r : Row). section_at r i) row_read) move.here)
 
         -- the key stands at the other position
         pub at_now : IsAt row_now.keys.items q key

@@ -1,7 +1,6 @@
-use Rattle.std.proofs.Common.{◌+◌, arith}
-use Rattle.asset_lists.specs.declared.part.Section.TheVariants.{Middle}
-use Rattle.asset_lists.proofs.SwapLemmas.{key_in, list_in, side, split, at_key, few, within, positions, valid_now, changed_now}
-use Rattle.asset_lists.proofs.SectionLemmas.{in_back, middle_in, raised_once}
+use Rattle.std.proofs.Common.{arith}
+use Rattle.asset_lists.proofs.SwapLemmas.{key_in, list_in, at_key, stands_in, few, within, positions, valid_now, changed_now}
+use Rattle.asset_lists.proofs.SectionLemmas.{raised}
 use Rattle.asset_lists.proofs.table.KeyLists.raise.Goals as goal
 
 pub index-requires : goal.index-requires
@@ -14,11 +13,7 @@ pub swap-requires-clause-first : goal.swap-requires-clause-first
 swap-requires-clause-first c = (at_key c.self.invariant c.self.view_is c.args.key c.requires c.index.ensures c.index_mut-row.ensures.value c.as_mut_slice.ensures.value).within
 
 pub swap-requires-clause-second : goal.swap-requires-clause-second
-swap-requires-clause-second c =
-    let row = c.index_mut-row.result.now in
-    let inside = in_back row.front row.back c.index.result.now.position (side c.self.invariant c.self.view_is c.args.key c.requires c.index.ensures c.index_mut-row.ensures.value) in
-    let fits = split c.self.invariant c.self.view_is c.args.key c.requires c.index.ensures c.index_mut-row.ensures.value c.as_mut_slice.ensures.value in
-    omega (arith, fits.0, fits.1, (at_key c.self.invariant c.self.view_is c.args.key c.requires c.index.ensures c.index_mut-row.ensures.value c.as_mut_slice.ensures.value).within, inside.0, inside.1)
+swap-requires-clause-second c = (raised (stands_in c.self.invariant c.self.view_is c.args.key c.requires c.index.ensures c.index_mut-row.ensures.value c.as_mut_slice.ensures.value)).within
 
 pub swap-requires-clause-few : goal.swap-requires-clause-few
 swap-requires-clause-few c = few c.self.invariant c.self.view_is c.args.key c.requires c.index.ensures c.index_mut-row.ensures.value c.as_mut_slice.ensures.value
@@ -30,23 +25,14 @@ pub swap-requires-clause-positions : goal.swap-requires-clause-positions
 swap-requires-clause-positions c = positions c.self.invariant c.self.view_is c.args.key c.requires c.index.ensures c.index_mut-row.ensures.value c.as_mut_slice.ensures.value
 
 pub overflow_add-row : goal.overflow_add-row
-overflow_add-row c =
-    let fits = split c.self.invariant c.self.view_is c.args.key c.requires c.index.ensures c.index_mut-row.ensures.value c.as_mut_slice.ensures.value in
-    omega (arith, fits.0, fits.1, few c.self.invariant c.self.view_is c.args.key c.requires c.index.ensures c.index_mut-row.ensures.value c.as_mut_slice.ensures.value)
+overflow_add-row c = omega (arith, (raised (stands_in c.self.invariant c.self.view_is c.args.key c.requires c.index.ensures c.index_mut-row.ensures.value c.as_mut_slice.ensures.value)).within, few c.self.invariant c.self.view_is c.args.key c.requires c.index.ensures c.index_mut-row.ensures.value c.as_mut_slice.ensures.value)
 
 pub invariant_of-self : goal.invariant_of-self
 invariant_of-self c =
-    let row = c.index_mut-row.result.now in
-    let inside = in_back row.front row.back c.index.result.now.position (side c.self.invariant c.self.view_is c.args.key c.requires c.index.ensures c.index_mut-row.ensures.value) in
-    let fits = split c.self.invariant c.self.view_is c.args.key c.requires c.index.ensures c.index_mut-row.ensures.value c.as_mut_slice.ensures.value in
-    let at = at_key c.self.invariant c.self.view_is c.args.key c.requires c.index.ensures c.index_mut-row.ensures.value c.as_mut_slice.ensures.value in
-    valid_now c.self.invariant c.self.view_is c.args.key c.requires c.index.ensures c.index_mut-row.ensures.value c.as_mut_slice.ensures.value row.front (row.back + 1) c.swap.new.places.items c.swap.ensures.size c.swap.ensures.swapped c.swap.ensures.moved c.swap.ensures.others
-    (omega (arith, fits.0, fits.1, inside.0, inside.1)) (omega (arith, fits.0, fits.1, at.within, inside.0, inside.1))
+    valid_now c.self.invariant c.self.view_is c.args.key c.requires c.index.ensures c.index_mut-row.ensures.value c.as_mut_slice.ensures.value
+    (raised (stands_in c.self.invariant c.self.view_is c.args.key c.requires c.index.ensures c.index_mut-row.ensures.value c.as_mut_slice.ensures.value)) c.swap.new.places.items c.swap.ensures.size c.swap.ensures.swapped c.swap.ensures.moved c.swap.ensures.others
 
 pub returns : goal.returns
 returns c =
-    let row = c.index_mut-row.result.now in
-    let inside = in_back row.front row.back c.index.result.now.position (side c.self.invariant c.self.view_is c.args.key c.requires c.index.ensures c.index_mut-row.ensures.value) in
-    let fits = split c.self.invariant c.self.view_is c.args.key c.requires c.index.ensures c.index_mut-row.ensures.value c.as_mut_slice.ensures.value in
-    changed_now c.self.invariant c.self.view_is c.args.key c.requires c.index.ensures c.index_mut-row.ensures.value c.as_mut_slice.ensures.value row.front (row.back + 1) c.swap.new.places.items c.swap.ensures.size c.swap.ensures.swapped c.swap.ensures.moved c.swap.ensures.others
-    Middle (λ i apart. raised_once c.index.result.now.position row.front row.back i fits.0 inside.1 apart) (middle_in row.front (row.back + 1) row.back fits.0 (omega arith))
+    changed_now c.self.invariant c.self.view_is c.args.key c.requires c.index.ensures c.index_mut-row.ensures.value c.as_mut_slice.ensures.value
+    (raised (stands_in c.self.invariant c.self.view_is c.args.key c.requires c.index.ensures c.index_mut-row.ensures.value c.as_mut_slice.ensures.value)) c.swap.new.places.items c.swap.ensures.size c.swap.ensures.swapped c.swap.ensures.moved c.swap.ensures.others
