@@ -100,7 +100,10 @@ module _ (table : Chained) (c k : ℕ) (sound : IsConsistent table) (home : home
       | inr here ↦ elim (or_cases (eqb j k) false here) [ inl same ↦ inl (eqb-true j k same) | inr wrong ↦ absurd (false≢true wrong) ]
     ]
 
-  pub walk_steps : (next : Option ℕ) → next ≡ first_of (behind k (chain_of table c)) → IsOn table c next
-      × ((j : ℕ) → lists (passed next (chain_of table c)) j ≡ true → (j ≡ k) ⊎ (lists (ahead k (chain_of table c)) j ≡ true))
-      × (left next (chain_of table c) < left (Some k) (chain_of table c))
-  walk_steps next is = rw is (step (behind k (chain_of table c)) refl)
+-- after a step from this key the next one, if there is one, is in the chain, only this key was passed and those that were
+-- passed before, and fewer are left
+pub walk_steps : (table : Chained) (c k : ℕ) → IsConsistent table → (now next : Option ℕ) → now ≡ Some k → IsOn table c now → (home_of table k ≡ Some c → next ≡ first_of (behind k (chain_of table c)))
+    → IsOn table c next
+    × ((j : ℕ) → lists (passed next (chain_of table c)) j ≡ true → (j ≡ k) ⊎ (lists (passed now (chain_of table c)) j ≡ true))
+    × (left next (chain_of table c) < left now (chain_of table c))
+walk_steps table c k sound now next is on is_next = rw (is, is_next (on k is)) (step table c k sound (on k is) (behind k (chain_of table c)) refl)

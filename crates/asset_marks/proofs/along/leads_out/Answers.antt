@@ -1,10 +1,10 @@
-use Rattle.std.proofs.Common.{◌≡◌, ◌<◌, ℕ, true, Option, Some, None, sym, ap, subst, ◌∙◌, inl, inr}
+use Rattle.std.proofs.Common.{◌≡◌, ℕ, Option, Some, None, sym, ap, ◌∙◌, inl, inr}
 use Rattle.slab.specs.Slab.{get}
 use Rattle.asset_names.specs.Arrows.{lists as lists_node}
-use Rattle.asset_chains.specs.Chained.{chain_of, home_of, ahead, lists}
+use Rattle.asset_chains.specs.Chained.{chain_of, home_of, lists}
 use Rattle.asset_chains.specs.Crossed.{lines, other_side}
 use Rattle.asset_marks.specs.Searched.{leads_to}
-use Rattle.asset_marks.proofs.KeyWalkLemmas.{walk_starts, walk_steps, passed, left}
+use Rattle.asset_marks.proofs.KeyWalkLemmas.{walk_starts, walk_steps, passed}
 use Rattle.asset_marks.proofs.KeyedLemmas.{item_leads, item_of_arrow}
 use Rattle.asset_marks.proofs.along.leads_out.Goals as goal
 use Rattle.asset_marks.proofs.along.leads_out.Goals.{in-Some-across_from+else-not-has, in_default-across_from}
@@ -32,20 +32,13 @@ returns-then-not-has-clause-leads g c = λ here.
     )
 
 pub keys-smaller : goal.keys-smaller
-keys-smaller g c =
-    let along = (lines c.args.way.now.side c.args.way.now.items.now) in
-    let home = c.keys.invariant.on c.in-Some.key c.in-Some.is in
-    let stepped = walk_steps along c.args.node c.in-Some.key (c.laws.ensures.crossed.sound c.args.way.now.side) home c.next-next.result (c.next-next.ensures.next c.args.node home) in
-    subst (λ (o : Option ℕ). left c.next-next.result (chain_of along c.args.node) < left o (chain_of along c.args.node)) (sym c.in-Some.is) stepped.2
+keys-smaller g c = (walk_steps (lines c.args.way.now.side c.args.way.now.items.now) c.args.node c.in-Some.key (c.laws.ensures.crossed.sound c.args.way.now.side) _ c.next-next.result c.in-Some.is c.keys.invariant.on (c.next-next.ensures.next c.args.node)).2
 
 pub keys-preserved : goal.keys-preserved
 keys-preserved g c =
     let way = c.args.way.now in
     let test = g.P.Pick.passes c.args.pick.now in
-    let key = c.in-Some.key in
-    let home = c.keys.invariant.on key c.in-Some.is in
-    let stepped = walk_steps (lines way.side way.items.now) c.args.node key (c.laws.ensures.crossed.sound c.args.way.now.side) home c.next-next.result (c.next-next.ensures.next c.args.node home) in
-    let before = λ (k t : ℕ) (there : lists (ahead key (chain_of (lines way.side way.items.now) c.args.node)) k ≡ true). c.keys.invariant.passed k t (ap (λ (o : Option ℕ). lists (passed o (chain_of (lines way.side way.items.now) c.args.node)) k) c.in-Some.is ∙ there) in
+    let stepped = walk_steps (lines c.args.way.now.side c.args.way.now.items.now) c.args.node c.in-Some.key (c.laws.ensures.crossed.sound c.args.way.now.side) _ c.next-next.result c.in-Some.is c.keys.invariant.on (c.next-next.ensures.next c.args.node) in
     elim c.match-across_from.branch [
       | in-Some-across_from+else-not-has w ↦ record {
         on = stepped.0;
@@ -54,7 +47,7 @@ keys-preserved g c =
               let same : Some t ≡ Some w.in-Some-across_from.other = sym goes ∙ ap (λ n. leads_to test (get way.items.now.items n) (home_of (lines (other_side way.side) way.items.now) n)) here ∙ sym c.across_from.ensures ∙ w.in-Some-across_from.is in
               let is : t ≡ w.in-Some-across_from.other = cc same in
               ap (lists_node c.args.marks.now.nodes) is ∙ sym w.has.ensures ∙ w.if-not-has.false
-          | inr old ↦ before k t old goes
+          | inr old ↦ c.keys.invariant.passed k t old goes
         ];
       }
       | in_default-across_from w ↦ record {
@@ -63,7 +56,7 @@ keys-preserved g c =
           | inl here ↦
               let none : Some t ≡ None = sym goes ∙ ap (λ n. leads_to test (get way.items.now.items n) (home_of (lines (other_side way.side) way.items.now) n)) here ∙ sym c.across_from.ensures ∙ w.in_default-across_from.is in
               cc none
-          | inr old ↦ before k t old goes
+          | inr old ↦ c.keys.invariant.passed k t old goes
         ];
       }
     ]
