@@ -27,14 +27,15 @@ use Rattle.asset_lock_store.proofs.LockLemmas.{on_to, on_from, off_from}
 abbrev pub with_grant : Op → Lock → Lock
 with_grant op lock = record lock { ops = with_op op lock.ops; granted = true }
 
--- op is granted to the lock at a key, which may move to another chain of its object
-pub stored_granted : (old new : Stored) (key number : ℕ) (op : Op) → IsStored old → number_in old.objects (lock_at old.locks key).object.0 ≡ Some number
-    → ((k : ℕ) → lock_at new.locks k ≡ cond (eqb k key) (with_grant op (lock_at old.locks key)) (lock_at old.locks k)) → ((k : ℕ) → is_some (get new.locks k) ≡ is_some (get old.locks k))
-    → IsChangedAt key (Some (part_for number (class_of (with_op op (lock_at old.locks key).ops)))) old.by_object new.by_object → is_some (part_of old.by_object key) ≡ true → new.by_owner ≡ old.by_owner → new.objects ≡ old.objects
+-- the lock at a key becomes another on its object, which may be in another part
+pub stored_written : (old new : Stored) (key number : ℕ) (lock : Lock) → IsStored old → number_in old.objects (lock_at old.locks key).object.0 ≡ Some number → lock.object ≡ (lock_at old.locks key).object
+    → ((k : ℕ) → lock_at new.locks k ≡ cond (eqb k key) lock (lock_at old.locks k)) → ((k : ℕ) → is_some (get new.locks k) ≡ is_some (get old.locks k))
+    → IsChangedAt key (Some (part_for number (class_of lock.ops))) old.by_object new.by_object → is_some (part_of old.by_object key) ≡ true → new.by_owner ≡ old.by_owner → new.objects ≡ old.objects
+    → (is_some_op (lock_at old.locks key).ops ≡ true → is_some_op lock.ops ≡ true)
     → ((j c d : ℕ) → home_of old.by_owner key ≡ Some c → home_of old.by_owner j ≡ Some d → (d ≡ c → ⊥) → (lock_at old.locks j).object.0 ≡ (lock_at old.locks key).object.0
-    → both_conflict (lock_at old.locks j).ops (with_op op (lock_at old.locks key).ops) ≡ true → (lock_at old.locks j).granted ≡ false)
+    → both_conflict (lock_at old.locks j).ops lock.ops ≡ true → ((lock_at old.locks j).granted && lock.granted) ≡ false)
     → IsStored new
-stored_granted old new key number op stored numbered locks keys change there of_owner objects alone =
+stored_written old new key number lock stored numbered on_same locks keys change there of_owner objects some alone =
     stored_changed old new stored keys
     (λ k. elim (cases_Bool (eqb k key)) [
       | inl here ↦ ap (λ (n : ℕ). is_some (part_of new.by_object n)) (eqb-true k key here) ∙ ap is_some change.here ∙ sym there ∙ ap (λ (n : ℕ). is_some (part_of old.by_object n)) (sym (eqb-true k key here))
@@ -59,7 +60,9 @@ stored_granted old new key number op stored numbered locks keys change there of_
     ])
     object
     (λ k c at. elim (cases_Bool (eqb k key)) [
-      | inl here ↦ ap (λ (n : ℕ). is_some_op (lock_at new.locks n).ops) (eqb-true k key here) ∙ ap (λ (l : Lock). is_some_op l.ops) at_key ∙ some_with op (lock_at old.locks key).ops
+      | inl here ↦
+          let is = eqb-true k key here in
+          ap (λ (n : ℕ). is_some_op (lock_at new.locks n).ops) is ∙ ap (λ (l : Lock). is_some_op l.ops) at_key ∙ some (ap (λ (n : ℕ). is_some_op (lock_at old.locks n).ops) (sym is) ∙ stored.carry k c at)
       | inr apart ↦ ap (λ (l : Lock). is_some_op l.ops) (others k (eqb-false k key apart)) ∙ stored.carry k c at
     ])
     (λ j k c d one other differ same conflict. elim (cases_Bool (eqb j key)) [
@@ -67,39 +70,54 @@ stored_granted old new key number op stored numbered locks keys change there of_
         | inl second ↦ absurd (differ (same_seat c d (sym one ∙ ap (home_of old.by_owner) (eqb-true j key first ∙ sym (eqb-true k key second)) ∙ other)))
         | inr apart ↦
             let is = eqb-true j key first in
+            let here = ap (λ (n : ℕ). lock_at new.locks n) is ∙ at_key in
             let kept = others k (eqb-false k key apart) in
-            ap (λ (b : Bool). (lock_at new.locks j).granted && b) (ap (λ (l : Lock). l.granted) kept
+            (λ i. (here i).granted && (kept i).granted) ∙ turned lock.granted (lock_at old.locks k).granted
             ∙ alone k c d (sym (ap (home_of old.by_owner) is) ∙ one) other (λ e. differ (sym e)) (sym same ∙ ap (λ (n : ℕ). (lock_at old.locks n).object.0) is)
-            (conflict_swapped (lock_at old.locks k).ops _ ∙ (λ i. both_conflict (sym (ap (λ (n : ℕ). lock_at new.locks n) is ∙ at_key) i).ops (sym kept i).ops) ∙ conflict))
-            ∙ and_false _
+            (conflict_swapped (lock_at old.locks k).ops _ ∙ (λ i. both_conflict (sym here i).ops (sym kept i).ops) ∙ conflict)
       ]
       | inr apart_j ↦ elim (cases_Bool (eqb k key)) [
         | inl second ↦
             let is = eqb-true k key second in
+            let here = ap (λ (n : ℕ). lock_at new.locks n) is ∙ at_key in
             let kept = others j (eqb-false j key apart_j) in
-            ap (λ (b : Bool). b && (lock_at new.locks k).granted) (ap (λ (l : Lock). l.granted) kept
-            ∙ alone j d c (sym (ap (home_of old.by_owner) is) ∙ other) one differ (same ∙ ap (λ (n : ℕ). (lock_at old.locks n).object.0) is)
-            ((λ i. both_conflict (sym kept i).ops (sym (ap (λ (n : ℕ). lock_at new.locks n) is ∙ at_key) i).ops) ∙ conflict))
+            (λ i. (kept i).granted && (here i).granted) ∙ alone j d c (sym (ap (home_of old.by_owner) is) ∙ other) one differ (same ∙ ap (λ (n : ℕ). (lock_at old.locks n).object.0) is)
+            ((λ i. both_conflict (sym kept i).ops (sym here i).ops) ∙ conflict)
         | inr apart_k ↦
             let first = others j (eqb-false j key apart_j) in
             let second = others k (eqb-false k key apart_k) in
             (λ i. (first i).granted && (second i).granted) ∙ stored.apart j k c d one other differ same ((λ i. both_conflict (sym first i).ops (sym second i).ops) ∙ conflict)
       ]
     ]) where
-      at_key : lock_at new.locks key ≡ with_grant op (lock_at old.locks key)
-      at_key = locks key ∙ ap (λ (b : Bool). cond b (with_grant op (lock_at old.locks key)) (lock_at old.locks key)) (eq-eqb key key refl)
+      at_key : lock_at new.locks key ≡ lock
+      at_key = locks key ∙ ap (λ (b : Bool). cond b lock (lock_at old.locks key)) (eq-eqb key key refl)
 
       others : (k : ℕ) → (k ≡ key → ⊥) → lock_at new.locks k ≡ lock_at old.locks k
-      others k apart = locks k ∙ ap (λ (b : Bool). cond b (with_grant op (lock_at old.locks key)) (lock_at old.locks k)) (ne_eqb k key apart)
+      others k apart = locks k ∙ ap (λ (b : Bool). cond b lock (lock_at old.locks k)) (ne_eqb k key apart)
 
       object : (k : ℕ) → (lock_at new.locks k).object.0 ≡ (lock_at old.locks k).object.0
       object k = elim (cases_Bool (eqb k key)) [
-        | inl here ↦ let is = eqb-true k key here in ap (λ (n : ℕ). (lock_at new.locks n).object.0) is ∙ ap (λ (l : Lock). l.object.0) at_key ∙ ap (λ (n : ℕ). (lock_at old.locks n).object.0) (sym is)
+        | inl here ↦ let is = eqb-true k key here in ap (λ (n : ℕ). (lock_at new.locks n).object.0) is ∙ ap (λ (l : Lock). l.object.0) at_key ∙ ap (λ (x : Ob). x.0) on_same ∙ ap (λ (n : ℕ). (lock_at old.locks n).object.0) (sym is)
         | inr apart ↦ ap (λ (l : Lock). l.object.0) (others k (eqb-false k key apart))
       ]
 
       same_seat : (c d : ℕ) → Some c ≡ Some d → c ≡ d
       same_seat c d e = cc
+
+      turned : (a b : Bool) → (a && b) ≡ (b && a)
+      turned true b = sym (and_true b)
+      turned false b = sym (and_false b)
+
+-- op is granted to the lock at a key, which may move to another chain of its object
+pub stored_granted : (old new : Stored) (key number : ℕ) (op : Op) → IsStored old → number_in old.objects (lock_at old.locks key).object.0 ≡ Some number
+    → ((k : ℕ) → lock_at new.locks k ≡ cond (eqb k key) (with_grant op (lock_at old.locks key)) (lock_at old.locks k)) → ((k : ℕ) → is_some (get new.locks k) ≡ is_some (get old.locks k))
+    → IsChangedAt key (Some (part_for number (class_of (with_op op (lock_at old.locks key).ops)))) old.by_object new.by_object → is_some (part_of old.by_object key) ≡ true → new.by_owner ≡ old.by_owner → new.objects ≡ old.objects
+    → ((j c d : ℕ) → home_of old.by_owner key ≡ Some c → home_of old.by_owner j ≡ Some d → (d ≡ c → ⊥) → (lock_at old.locks j).object.0 ≡ (lock_at old.locks key).object.0
+    → both_conflict (lock_at old.locks j).ops (with_op op (lock_at old.locks key).ops) ≡ true → (lock_at old.locks j).granted ≡ false)
+    → IsStored new
+stored_granted old new key number op stored numbered locks keys change there of_owner objects alone =
+    stored_written old new key number (with_grant op (lock_at old.locks key)) stored numbered refl locks keys change there of_owner objects (λ some. some_with op (lock_at old.locks key).ops)
+    (λ j c d one other differ same conflict. ap (λ (b : Bool). b && true) (alone j c d one other differ same conflict))
 
 -- ---- the locks of a seat after a grant
 chain_same_as : (old new : Stored) → new.by_owner ≡ old.by_owner → (c : ℕ) → locks_at new c ≡ map (lock_at new.locks) (chain_of old.by_owner c)

@@ -1,5 +1,5 @@
 -- A lock that becomes another seat's, and what is stored then.
-use Rattle.std.proofs.Common.{◌≡◌, ℕ, ◌<◌, ◌≤◌, Bool, true, false, eqb, cond, ◌&&◌, ◌||◌, List, [], ◌∷◌, ◌++◌, map, length, Option, Some, None, is_some, refl, sym, ap, subst, ◌∙◌, inl, inr, arith}
+use Rattle.std.proofs.Common.{◌≡◌, ℕ, ◌<◌, Bool, true, false, eqb, cond, ◌||◌, List, [], ◌∷◌, ◌++◌, map, length, Option, Some, None, is_some, refl, sym, ap, subst, ◌∙◌, inl, inr, arith}
 use Rattle.std.proofs.lemmas.Bool.{eqb-true, eqb-false, eq-eqb, ne_eqb, cases_Bool, cases_eq, both_ways, true≢false}
 use Rattle.std.proofs.lemmas.List.{map-append}
 use Rattle.slab.specs.Slab.{Slab, get, with_value}
@@ -12,11 +12,11 @@ use Rattle.asset_chains.proofs.Walks.{chains_without, map_same}
 use Rattle.asset_chains.proofs.KeyLemmas.{without_unlisted}
 use Rattle.asset_lists.specs.Parted.{part_of, IsChangedAt}
 use Rattle.asset_lock_store.specs.declared.lock.Lock.{Lock}
-use Rattle.asset_lock_store.specs.LockRules.{is_on, both_conflict, both_ops, merged, is_some_op}
+use Rattle.asset_lock_store.specs.LockRules.{is_on, both_ops, merged, is_some_op}
 use Rattle.asset_names.specs.Numbered.{number_in}
-use Rattle.asset_lock_store.specs.Stored.{Stored, lock_at, locks_at, part_for, class_of, IsPlaced, IsStored, IsDropped, IsMoved, IsHanded}
-use Rattle.asset_lock_store.proofs.StoreLemmas.{stored_changed, written, read_lock}
-use Rattle.asset_lock_store.proofs.GrantLemmas.{found_here, none_here, seat_one}
+use Rattle.asset_lock_store.specs.Stored.{Stored, lock_at, locks_at, part_for, class_of, IsStored, IsDropped, IsMoved, IsHanded}
+use Rattle.asset_lock_store.proofs.StoreLemmas.{written, read_lock}
+use Rattle.asset_lock_store.proofs.GrantLemmas.{stored_written, found_here, none_here, seat_one}
 use Rattle.asset_lock_store.proofs.MergeLemmas.{with_ops, merged_here, merged_apart, ops_one, moved_here, moved_alone}
 use Rattle.asset_lock_store.proofs.LockLemmas.{on_to, on_from, off_from}
 
@@ -129,60 +129,8 @@ pub stored_merged : (old new : Stored) (key number : ℕ) (ops : OpSet) → IsSt
     → ((k : ℕ) → lock_at new.locks k ≡ cond (eqb k key) (with_ops ops (lock_at old.locks key)) (lock_at old.locks k)) → ((k : ℕ) → is_some (get new.locks k) ≡ is_some (get old.locks k))
     → IsChangedAt key (Some (part_for number (class_of (both_ops (lock_at old.locks key).ops ops)))) old.by_object new.by_object → is_some (part_of old.by_object key) ≡ true → new.by_owner ≡ old.by_owner → new.objects ≡ old.objects → IsStored new
 stored_merged old new key number ops stored numbered locks keys change there of_owner objects =
-    stored_changed old new stored keys
-    (λ k. elim (cases_Bool (eqb k key)) [
-      | inl here ↦ ap (λ (n : ℕ). is_some (part_of new.by_object n)) (eqb-true k key here) ∙ ap is_some change.here ∙ sym there ∙ ap (λ (n : ℕ). is_some (part_of old.by_object n)) (sym (eqb-true k key here))
-      | inr apart ↦ ap is_some (change.others k (eqb-false k key apart))
-    ])
-    of_owner
-    (subst (λ n. length new.objects ≤ n) (sym change.same_lists) (subst (λ l. length l ≤ old.by_object.lists) (sym objects) stored.lists))
-    (λ k c at. elim (cases_Bool (eqb k key)) [
-      | inl here ↦ subst (IsPlaced new) (sym (eqb-true k key here)) (record {
-        number = number;
-        numbered = ap (λ l. number_in l (lock_at new.locks key).object.0) objects ∙ ap (number_in old.objects) (object key) ∙ numbered;
-        part = change.here ∙ ap (λ (l : Lock). Some (part_for number (class_of l.ops))) (sym at_key);
-      })
-      | inr apart ↦
-          let placed = stored.placed k c at in
-          let same = others k (eqb-false k key apart) in
-          record {
-            number = placed.number;
-            numbered = ap (λ l. number_in l (lock_at new.locks k).object.0) objects ∙ ap (number_in old.objects) (object k) ∙ placed.numbered;
-            part = change.others k (eqb-false k key apart) ∙ placed.part ∙ ap (λ (l : Lock). Some (part_for placed.number (class_of l.ops))) (sym same);
-          }
-    ])
-    object
-    (λ k c at. elim (cases_Bool (eqb k key)) [
-      | inl here ↦
-          ap (λ (n : ℕ). is_some_op (lock_at new.locks n).ops) (eqb-true k key here)
-          ∙ ap (λ (l : Lock). is_some_op l.ops) at_key
-          ∙ some_both (lock_at old.locks key).ops ops (ap (λ (n : ℕ). is_some_op (lock_at old.locks n).ops) (sym (eqb-true k key here)) ∙ stored.carry k c at)
-      | inr apart ↦ ap (λ (l : Lock). is_some_op l.ops) (others k (eqb-false k key apart)) ∙ stored.carry k c at
-    ])
-    (λ j k c d one other differ same conflict. elim (cases_Bool (eqb j key)) [
-      | inl first ↦ ap (λ (b : Bool). b && (lock_at new.locks k).granted) (asleep j first)
-      | inr apart_j ↦ elim (cases_Bool (eqb k key)) [
-        | inl second ↦ ap (λ (b : Bool). (lock_at new.locks j).granted && b) (asleep k second) ∙ and_false (lock_at new.locks j).granted
-        | inr apart_k ↦
-            let first = others j (eqb-false j key apart_j) in
-            let second = others k (eqb-false k key apart_k) in
-            (λ i. (first i).granted && (second i).granted) ∙ stored.apart j k c d one other differ same ((λ i. both_conflict (sym first i).ops (sym second i).ops) ∙ conflict)
-      ]
-    ]) where
-      at_key : lock_at new.locks key ≡ with_ops ops (lock_at old.locks key)
-      at_key = locks key ∙ ap (λ (b : Bool). cond b (with_ops ops (lock_at old.locks key)) (lock_at old.locks key)) (eq-eqb key key refl)
-
-      others : (k : ℕ) → (k ≡ key → ⊥) → lock_at new.locks k ≡ lock_at old.locks k
-      others k apart = locks k ∙ ap (λ (b : Bool). cond b (with_ops ops (lock_at old.locks key)) (lock_at old.locks k)) (ne_eqb k key apart)
-
-      object : (k : ℕ) → (lock_at new.locks k).object.0 ≡ (lock_at old.locks k).object.0
-      object k = elim (cases_Bool (eqb k key)) [
-        | inl here ↦ let is = eqb-true k key here in ap (λ (n : ℕ). (lock_at new.locks n).object.0) is ∙ ap (λ (l : Lock). l.object.0) at_key ∙ ap (λ (n : ℕ). (lock_at old.locks n).object.0) (sym is)
-        | inr apart ↦ ap (λ (l : Lock). l.object.0) (others k (eqb-false k key apart))
-      ]
-
-      asleep : (k : ℕ) → eqb k key ≡ true → (lock_at new.locks k).granted ≡ false
-      asleep k here = ap (λ (n : ℕ). (lock_at new.locks n).granted) (eqb-true k key here) ∙ ap (λ (l : Lock). l.granted) at_key
+    stored_written old new key number (with_ops ops (lock_at old.locks key)) stored numbered refl locks keys change there of_owner objects (some_both (lock_at old.locks key).ops ops)
+    (λ j c d one other differ same conflict. and_false (lock_at old.locks j).granted)
 
 -- ---- the locks of each seat
 -- the key of another seat is not that of a lock of this one
