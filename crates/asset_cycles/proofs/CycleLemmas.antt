@@ -8,7 +8,8 @@ use Rattle.std.proofs.lemmas.List.{get_or_past}
 use Rattle.asset_names.specs.Arrows.{Arrow, linked, lists}
 use Rattle.asset_names.proofs.Common.{both_follow}
 use Rattle.asset_cycles.specs.Cyclic.{turned, reaches, on_one_cycle, label_below, cycle_labels}
-use Rattle.asset_cycles.proofs.ReachLemmas.{reach_linked, reach_on, reach_behind, reach_trans, linked_back}
+use Rattle.asset_marks.proofs.KeyedLemmas.{linked_turned}
+use Rattle.asset_cycles.proofs.ReachLemmas.{reach_linked, reach_on, reach_behind, reach_trans}
 use Rattle.asset_cycles.proofs.LeastLemmas.{IsLeast, find_more, none_passes, found_least, least_found}
 
 -- ---- being on one cycle
@@ -66,12 +67,12 @@ labelled_here arrows i n none = label_more arrows i n ∙ go (label_below arrows
 -- a node reaches itself if an arrow leads from it to one that the search backward met
 pub met_round : (arrows back : List Arrow) (behind : List ℕ) (node : ℕ) → back ≡ turned arrows → ((n : ℕ) → lists behind n ≡ linked back node n) → list_any (λ (arrow : Arrow). eqb arrow.0 node && lists behind arrow.1) arrows ≡ reaches arrows node node
 unfolding reaches
-met_round arrows back behind node is met = λ m. list_any (λ (arrow : Arrow). eqb arrow.0 node && (met arrow.1 ∙ ap (λ l. linked l node arrow.1) is ∙ linked_back arrows node arrow.1) m) arrows
+met_round arrows back behind node is met = λ m. list_any (λ (arrow : Arrow). eqb arrow.0 node && (met arrow.1 ∙ ap (λ l. linked l node arrow.1) is ∙ linked_turned arrows arrow.1 node) m) arrows
 
 -- what both searches met is on one cycle with a node that reaches itself
 pub met_both : (arrows back : List Arrow) (node n : ℕ) → back ≡ turned arrows → reaches arrows node node ≡ true → (linked arrows node n && linked back node n) ≡ on_one_cycle arrows node n
 unfolding on_one_cycle
-met_both arrows back node n is round = ap (λ b. linked arrows node n && b) (ap (λ l. linked l node n) is ∙ linked_back arrows node n) ∙ both_follow _ _
+met_both arrows back node n is round = ap (λ b. linked arrows node n && b) (ap (λ l. linked l node n) is ∙ linked_turned arrows n node) ∙ both_follow _ _
     (λ h.
     let ways = and_parts (linked arrows node n) (linked arrows n node) h in
     and_from _ _ (reach_on arrows node node n round ways.0) (reach_behind arrows n node node ways.1 round))

@@ -1,5 +1,5 @@
 -- Laws of what a node reaches along arrows.
-use Rattle.std.proofs.Common.{◌≡◌, ℕ, Bool, true, false, eqb, ◌&&◌, ◌||◌, List, [], ◌∷◌, refl, sym, subst, ◌∙◌, inl, inr}
+use Rattle.std.proofs.Common.{◌≡◌, ℕ, Bool, true, eqb, ◌&&◌, List, [], ◌∷◌, refl, sym, subst, ◌∙◌, inl, inr}
 use Rattle.std.specs.List.{list_any}
 use Rattle.std.proofs.lemmas.Bool.{or_cases, or_left, or_right, and_from, and_parts, eqb-true, eq-eqb, false≢true}
 use Rattle.asset_names.specs.Arrows.{Arrow, linked, has_arrow, Chain}
@@ -7,6 +7,7 @@ use Rattle.asset_names.specs.Arrows.Chain.{stay, along}
 use Rattle.asset_names.proofs.Arrows.{linked_refl, linked_trans, chain_from_linked}
 use Rattle.asset_names.proofs.PermitLemmas.{has_listed, linked_has}
 use Rattle.asset_names.proofs.Common.{both_follow}
+use Rattle.asset_marks.proofs.KeyedLemmas.{turned_leads, linked_turned}
 use Rattle.asset_cycles.specs.Cyclic.{reaches, turned}
 
 -- ---- an arrow leads from a node to one that passes a test
@@ -70,38 +71,12 @@ reach_behind arrows a b c way h =
     reach_on arrows a parts.0 c (reach_last arrows a b parts.0 way parts.1) parts.2
 
 -- ---- arrows that are turned round
--- an arrow leads on where the arrow turned round leads back
-pub turned_leads : (arrows : List Arrow) (u t : ℕ) → has_arrow (turned arrows) u t ≡ has_arrow arrows t u
-unfolding has_arrow
-turned_leads [] u t = refl
-turned_leads (arrow ∷ arrows) u t = (λ m. (swap (eqb arrow.1 u) (eqb arrow.0 t) m) || turned_leads arrows u t m) where
-  swap : (p q : Bool) → (p && q) ≡ (q && p)
-  swap true true = refl
-  swap true false = refl
-  swap false true = refl
-  swap false false = refl
-
-linked_turned : (arrows : List Arrow) (a b : ℕ) → linked (turned arrows) a b ≡ true → linked arrows b a ≡ true
-linked_turned arrows a b way = go a b (chain_from_linked (turned arrows) a b way) where
-  go : (a b : ℕ) → Chain (turned arrows) a b → linked arrows b a ≡ true
-  go a b (stay n) = linked_refl arrows a
-  go a b (along m n o first rest) = linked_trans arrows b n a (go n b rest) (linked_has arrows n a (sym (turned_leads arrows a n) ∙ has_listed (turned arrows) a n first))
-
-turned_linked : (arrows : List Arrow) (a b : ℕ) → linked arrows a b ≡ true → linked (turned arrows) b a ≡ true
-turned_linked arrows a b way = go a b (chain_from_linked arrows a b way) where
-  go : (a b : ℕ) → Chain arrows a b → linked (turned arrows) b a ≡ true
-  go a b (stay n) = linked_refl (turned arrows) a
-  go a b (along m n o first rest) = linked_trans (turned arrows) b n a (go n b rest) (linked_has (turned arrows) n a (turned_leads arrows n a ∙ has_listed arrows a n first))
-
-pub linked_back : (arrows : List Arrow) (a b : ℕ) → linked (turned arrows) a b ≡ linked arrows b a
-linked_back arrows a b = both_follow _ _ (linked_turned arrows a b) (turned_linked arrows b a)
-
 -- what reaches a node is what the node reaches along the arrows turned round
 pub reaches_turned : (arrows : List Arrow) (a b : ℕ) → reaches (turned arrows) a b ≡ reaches arrows b a
 reaches_turned arrows a b = both_follow _ _
     (λ h.
     let parts = reach_parts (turned arrows) a b h in
-    reach_last arrows b parts.0 a (linked_turned arrows parts.0 b parts.2) (sym (turned_leads arrows a parts.0) ∙ parts.1))
+    reach_last arrows b parts.0 a (sym (linked_turned arrows b parts.0) ∙ parts.2) (sym (turned_leads arrows a parts.0) ∙ parts.1))
     (λ h.
     let parts = reach_parts arrows b a h in
-    reach_last (turned arrows) a parts.0 b (turned_linked arrows parts.0 a parts.2) (turned_leads arrows parts.0 b ∙ parts.1))
+    reach_last (turned arrows) a parts.0 b (linked_turned arrows parts.0 a ∙ parts.2) (turned_leads arrows parts.0 b ∙ parts.1))
