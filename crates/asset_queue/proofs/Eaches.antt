@@ -1,9 +1,8 @@
 -- What is so of each of a list.
-use Rattle.std.proofs.Common.{◌≡◌, ℕ, zero, suc, List, [], ◌∷◌, ◌++◌, length, map, Vec, Some, sym, refl, ap, ◌∙◌, subst}
+use Rattle.std.proofs.Common.{◌≡◌, ℕ, zero, suc, List, [], ◌∷◌, ◌++◌, length, map, Some, sym, refl, ap, ◌∙◌, subst}
 use Rattle.std.specs.Prelude.{slice_get}
 use Rattle.std.proofs.lemmas.List.{map-append}
 use Rattle.asset_queue.specs.Each.{Each, IsAmong}
-use Rattle.asset_queue.specs.Rows.{EachOf}
 
 module _ {A : Type 0} where
   pub each_more : (P : A → Type 0) (xs : List A) (x : A) → Each P xs → P x → Each P (xs ++ x ∷ [])
@@ -42,6 +41,3 @@ module _ {A : Type 0} where
 -- one more on each side
 pub maps_pushed : {A B C : Type 0} (f : A → C) (g : B → C) (old new : List A) (x : A) (ys : List B) (y : B) → new ≡ old ++ x ∷ [] → map f old ≡ map g ys → f x ≡ g y → map f new ≡ map g (ys ++ y ∷ [])
 maps_pushed f g old new x ys y e o h = ap (map f) e ∙ (map-append f old (x ∷ []) ∙ ((λ i. o i ++ h i ∷ []) ∙ sym (map-append g ys (y ∷ []))))
-
-pub each_joined : {E A : Type 0} (P : E → Type 0) (rows more all : List (Vec E A)) → all ≡ rows ++ more → EachOf P rows → EachOf P more → EachOf P all
-each_joined {E} {A} P rows more all e one two = subst (EachOf P) (sym e) (each_append (λ (row : Vec E A). Each P row.items) rows more one two)
