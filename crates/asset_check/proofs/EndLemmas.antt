@@ -105,9 +105,6 @@ first_lines : (ls : List (List ℕ)) (n m : ℕ) (seen : Seen) → first_bad ls 
 unfolding first_bad check_lines mistake_line
 first_lines [] n m seen found = absurd (cc)
 first_lines (line ∷ more) n m seen found = go (mistake_at seen line) found (first_lines more (n + 1) m (seen_by seen (line_of line))) where
-  later_text : List ℕ
-  later_text = check_lines more (n + 1) (seen_by seen (line_of line))
-
   go : (told : Option Found) → cond (is_some told) (Some n) (first_bad more (n + 1) (seen_by seen (line_of line))) ≡ Some m
       → (first_bad more (n + 1) (seen_by seen (line_of line)) ≡ Some m → Begins (check_lines more (n + 1) (seen_by seen (line_of line))) (codes "line " ++ decimal m ++ codes ": "))
       → Begins (mistake_line n told ++ check_lines more (n + 1) (seen_by seen (line_of line))) (codes "line " ++ decimal m ++ codes ": ")
