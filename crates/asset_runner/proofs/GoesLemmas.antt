@@ -1,17 +1,13 @@
 -- How calls go on, and what came of jobs.
-use Rattle.std.proofs.Common.{◌≡◌, ℕ, zero, suc, ◌<◌, ◌⊎◌, ⊎_elim, Bool, true, false, List, [], ◌∷◌, length, set, get_or, Option, Some, None, Result, Ok, Err, sym, refl, ap, ◌∙◌, subst, arith}
+use Rattle.std.proofs.Common.{◌≡◌, ℕ, zero, suc, ◌<◌, ◌⊎◌, ⊎_elim, Bool, true, false, List, [], ◌∷◌, length, set, get_or, Option, Some, None, sym, refl, ◌∙◌, subst, arith}
 use Rattle.std.specs.Prelude.{slice_get}
 use mathlib.Core.Logic.{inl, inr}
 use Rattle.asset_names.specs.declared.names.Txn.{Txn}
-use Rattle.asset_names.specs.declared.steps.Step.TheVariants.{Begin}
-use Rattle.asset_names.specs.declared.replies.Reply.TheVariants.{Done}
 use Rattle.asset_names.specs.declared.replies.Outcome.{Outcome}
 use Rattle.asset_names.specs.declared.replies.Outcome.TheVariants.{Answer, Wait}
-use Rattle.asset_names.specs.declared.replies.Fault.{Fault}
 use Rattle.asset_audit.specs.Audited.{Call}
-use Rattle.asset_manager.specs.Listed.{IsListed}
 use Rattle.asset_runner.specs.declared.arrival.Arrival.{Arrival}
-use Rattle.asset_runner.specs.Fates.{answered_by, waits_by, AsksOnce, AsksCommit, AsksBegin}
+use Rattle.asset_runner.specs.Fates.{answered_by, waits_by, AsksOnce, AsksCommit}
 use Rattle.asset_runner.specs.Arrived.{GoesOn, AllGoOn}
 use Rattle.asset_runner.specs.Rows.{names_of}
 
@@ -20,16 +16,6 @@ pub asks_once : (u : Txn) (before later : List Call) (came : Option Outcome) →
 asks_once u before later None same = inl same
 asks_once u before later (Some Wait) same = inl same
 asks_once u before later (Some (Answer reply)) more = inr (more.0, reply, more.1)
-
--- a commit that waits is no call
-pub waits_once : (u : Txn) (before later : List Call) (came : Option Outcome) → came ≡ Some Wait → AsksOnce u before came later → later ≡ before
-waits_once u before later came is asked = subst (λ (came : Option Outcome). AsksOnce u before came later) is asked
-
--- a begin that was not answered `Done` is one call more or none
-pub asks_begin : (t : Txn) (before later : List Call) (result : Result Outcome Fault) → (result ≡ Ok (Answer Done) → ⊥) → IsListed before (Begin t) result later → AsksBegin t before later
-asks_begin t before later (Ok (Answer reply)) not_done listed = inr (listed.0, reply, listed.1, λ is. not_done (ap (λ r. Ok (Answer r)) is))
-asks_begin t before later (Ok Wait) not_done listed = inl listed
-asks_begin t before later (Err fault) not_done listed = inl listed
 
 either : (b : Bool) → (b ≡ true) ⊎ (b ≡ false)
 either true = inl refl
