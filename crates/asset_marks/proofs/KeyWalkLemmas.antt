@@ -48,6 +48,13 @@ module _ (table : Chained) (c k : ℕ) (sound : IsConsistent table) (home : home
   cut : chain_of table c ≡ ahead k (chain_of table c) ++ k ∷ behind k (chain_of table c)
   cut = chain_at_key k c table sound home
 
+  -- a key that is passed then is this one, or was passed before
+  passes : (j : ℕ) → (lists (ahead k (chain_of table c)) j || lists (k ∷ []) j) ≡ true → (j ≡ k) ⊎ (lists (ahead k (chain_of table c)) j ≡ true)
+  passes j h = elim (or_cases (lists (ahead k (chain_of table c)) j) (lists (k ∷ []) j) h) [
+    | inl before ↦ inr before
+    | inr here ↦ elim (or_cases (eqb j k) false here) [ inl same ↦ inl (eqb-true j k same) | inr wrong ↦ absurd (false≢true wrong) ]
+  ]
+
   -- the next key, if there is one, is in the chain; this key is passed, and fewer are left
   step : (rest : List ℕ) → behind k (chain_of table c) ≡ rest → IsOn table c (first_of rest)
       × ((j : ℕ) → lists (passed (first_of rest) (chain_of table c)) j ≡ true → (j ≡ k) ⊎ (lists (ahead k (chain_of table c)) j ≡ true))
@@ -55,12 +62,6 @@ module _ (table : Chained) (c k : ℕ) (sound : IsConsistent table) (home : home
   step [] is = (λ j at. cc at, λ j there. passes j (sym (lists-append (ahead k (chain_of table c)) (k ∷ []) j) ∙ sym (ap (λ (keys : List ℕ). lists keys j) all) ∙ there), omega arith) where
     all : chain_of table c ≡ ahead k (chain_of table c) ++ k ∷ []
     all = cut ∙ ap (λ (rest : List ℕ). ahead k (chain_of table c) ++ k ∷ rest) is
-
-    passes : (j : ℕ) → (lists (ahead k (chain_of table c)) j || lists (k ∷ []) j) ≡ true → (j ≡ k) ⊎ (lists (ahead k (chain_of table c)) j ≡ true)
-    passes j h = elim (or_cases (lists (ahead k (chain_of table c)) j) (lists (k ∷ []) j) h) [
-      | inl before ↦ inr before
-      | inr here ↦ elim (or_cases (eqb j k) false here) [ inl same ↦ inl (eqb-true j k same) | inr wrong ↦ absurd (false≢true wrong) ]
-    ]
   step (n ∷ rest) is = (λ j at. on j at, λ j there. passes j (sym (lists-append (ahead k (chain_of table c)) (k ∷ []) j) ∙ sym (ap (λ (keys : List ℕ). lists keys j) now_ahead) ∙ there), fewer) where
     front : List ℕ
     front = ahead k (chain_of table c) ++ k ∷ []
@@ -93,12 +94,6 @@ module _ (table : Chained) (c k : ℕ) (sound : IsConsistent table) (home : home
 
     fewer : suc (length (behind n (chain_of table c))) < suc (length (behind k (chain_of table c)))
     fewer = omega (arith, ap length now_behind, ap length is)
-
-    passes : (j : ℕ) → (lists (ahead k (chain_of table c)) j || lists (k ∷ []) j) ≡ true → (j ≡ k) ⊎ (lists (ahead k (chain_of table c)) j ≡ true)
-    passes j h = elim (or_cases (lists (ahead k (chain_of table c)) j) (lists (k ∷ []) j) h) [
-      | inl before ↦ inr before
-      | inr here ↦ elim (or_cases (eqb j k) false here) [ inl same ↦ inl (eqb-true j k same) | inr wrong ↦ absurd (false≢true wrong) ]
-    ]
 
 -- after a step from this key the next one, if there is one, is in the chain, only this key was passed and those that were
 -- passed before, and fewer are left
