@@ -27,8 +27,7 @@ use Rattle.asset_laws.proofs.KeptLemmas.{kept_alike, kept_applied}
 use Rattle.asset_laws.proofs.KeptSteps.{Respects}
 use Rattle.asset_laws.proofs.SerialPlain.{AllPlain, AllSingle, commits_plain, legal_plain}
 use Rattle.asset_laws.proofs.SerialValues.{NobodyAborted, AllOwnOpens, own_opens_rest, own_opens_head, own_openers, ComesLast}
-use Rattle.asset_laws.proofs.GroupLemmas.{legal_rest}
-use Rattle.asset_laws.proofs.SerialBlocks.{IsPart, part_rest, single_rest, unaborted_rest}
+use Rattle.asset_laws.proofs.SerialBlocks.{IsPart, part_rest, unaborted_rest}
 
 -- all but t
 unfoldable pub but : ℕ → ℕ → Bool
@@ -284,9 +283,6 @@ comes opening t names all legal single opens unaborted is named (entry ∷ older
 
       unaborted_older : NobodyAborted (applied older)
       unaborted_older = unaborted_rest shorter.0 older (subst (λ l. NobodyAborted (applied l)) (sym shorter.1) unaborted)
-
-      plain_older : AllPlain (applied older)
-      plain_older = legal_plain opening older (legal_rest opening shorter.0 older (subst (IsLegal opening) (sym shorter.1) legal)) (single_rest shorter.0 older (subst AllSingle (sym shorter.1) single))
 
       listed : lists (t ∷ names) (actor entry.0).0 ≡ true
       listed = named_head (t ∷ names) entry older (named_part (t ∷ names) part.0 (entry ∷ older) (subst (AllNamed (t ∷ names)) (sym part.1) named))
