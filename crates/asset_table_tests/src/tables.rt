@@ -10,11 +10,24 @@ use std::test::Fail;
 const THREE: [(Ob, i64); 3] = [(Ob(1), 100), (Ob(2), 200), (Ob(3), 300)];
 
 /// Opens the tables of these objects. If memory runs out once, the same call is made again.
-pub(crate) fn open(alloc: Global) -> Result<Tables, ObjectsFault> {
+fn open(alloc: Global) -> Result<Tables, ObjectsFault> {
     match Tables::open(alloc, &THREE) {
         Ok(tables) => Ok(tables),
         Err(_) => Tables::open(alloc, &THREE),
     }
+}
+
+/// Returns whether a worked row goes on the tables as it should.
+pub(crate) fn goes<P: Fn(&mut Tables) -> bool + Drop>(
+    alloc: Global,
+    row: P,
+) -> Result<bool, ObjectsFault>
+    requires { P.IsAlwaysCallable row }
+{
+    let mut tables = open(alloc)?;
+    let works = row(&mut tables);
+    drop(tables);
+    Ok(works)
 }
 
 /// Initiates a transaction if it is Unknown, and returns whether it was.
@@ -253,45 +266,35 @@ fn empty_delegations(tables: &mut Tables) -> bool {
 
 #[test]
 fn one_transaction_on_the_tables(rt: HostRuntime) -> Result<(), Fail> {
-    let mut tables = open(rt.alloc())?;
-    let works = one_transaction(&mut tables);
-    drop(tables);
+    let works = goes(rt.alloc(), one_transaction)?;
     assert!(rt; works);
     Ok(())
 }
 
 #[test]
 fn cooperating_write_on_the_tables(rt: HostRuntime) -> Result<(), Fail> {
-    let mut tables = open(rt.alloc())?;
-    let works = cooperating_write(&mut tables);
-    drop(tables);
+    let works = goes(rt.alloc(), cooperating_write)?;
     assert!(rt; works);
     Ok(())
 }
 
 #[test]
 fn delegated_write_on_the_tables(rt: HostRuntime) -> Result<(), Fail> {
-    let mut tables = open(rt.alloc())?;
-    let works = delegated_write(&mut tables);
-    drop(tables);
+    let works = goes(rt.alloc(), delegated_write)?;
     assert!(rt; works);
     Ok(())
 }
 
 #[test]
 fn write_outlives_its_writer_on_the_tables(rt: HostRuntime) -> Result<(), Fail> {
-    let mut tables = open(rt.alloc())?;
-    let works = write_outlives_its_writer(&mut tables);
-    drop(tables);
+    let works = goes(rt.alloc(), write_outlives_its_writer)?;
     assert!(rt; works);
     Ok(())
 }
 
 #[test]
 fn delegations_that_move_nothing_on_the_tables(rt: HostRuntime) -> Result<(), Fail> {
-    let mut tables = open(rt.alloc())?;
-    let works = empty_delegations(&mut tables);
-    drop(tables);
+    let works = goes(rt.alloc(), empty_delegations)?;
     assert!(rt; works);
     Ok(())
 }

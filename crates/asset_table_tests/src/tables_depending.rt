@@ -1,6 +1,6 @@
 //! Dependencies made on the tables, and what is left if memory runs out.
 
-use crate::tables::{abort, open, read, start_three, write};
+use crate::tables::{abort, goes, read, start_three, write};
 use asset_ends::{Tables, Tried};
 use asset_names::{Kind, NoMemory, Ob, Op, Status, Txn};
 use std::test::Fail;
@@ -170,7 +170,16 @@ fn cycle(tables: &mut Tables, kind: Kind, a: u64, b: u64) -> bool {
     tables.would_cycle(kind, Txn(a), Txn(b))
 }
 
-/// Returns whether cycles are seen through a class, and no longer once their source has ended.
+/// Returns whether one that was never initiated would close a cycle with itself alone, and not by a group commit.
+fn stranger_closes_its_own_cycle(tables: &mut Tables) -> bool {
+    let (stranger, other) = (Txn(99), Txn(98));
+    tables.would_cycle(Kind::Cd, stranger, stranger)
+        && tables.would_cycle(Kind::Ad, stranger, stranger)
+        && !tables.would_cycle(Kind::Gc, stranger, stranger)
+        && !tables.would_cycle(Kind::Cd, stranger, other)
+}
+
+/// Returns whether cycles are seen through a class, and no longer once their source has ended; and that of a stranger too.
 fn cycles_show(tables: &mut Tables) -> bool {
     start_three(tables)
         && !cycle(tables, Kind::Cd, 7, 8)
@@ -189,58 +198,40 @@ fn cycles_show(tables: &mut Tables) -> bool {
         && !cycle(tables, Kind::Cd, 9, 7)
         && cycle(tables, Kind::Cd, 8, 9)
         && have(tables, Status::Committed, Status::Running, Status::Running)
+        && stranger_closes_its_own_cycle(tables)
 }
 
 #[test]
 fn commit_dependency_on_the_tables(rt: HostRuntime) -> Result<(), Fail> {
-    let mut tables = open(rt.alloc())?;
-    let works = commit_waits(&mut tables);
-    drop(tables);
+    let works = goes(rt.alloc(), commit_waits)?;
     assert!(rt; works);
     Ok(())
 }
 
 #[test]
 fn group_commit_on_the_tables(rt: HostRuntime) -> Result<(), Fail> {
-    let mut tables = open(rt.alloc())?;
-    let works = class_commits(&mut tables);
-    drop(tables);
+    let works = goes(rt.alloc(), class_commits)?;
     assert!(rt; works);
     Ok(())
 }
 
 #[test]
 fn abort_spreads_on_the_tables(rt: HostRuntime) -> Result<(), Fail> {
-    let mut tables = open(rt.alloc())?;
-    let works = abort_spreads(&mut tables);
-    drop(tables);
+    let works = goes(rt.alloc(), abort_spreads)?;
     assert!(rt; works);
     Ok(())
 }
 
 #[test]
 fn abort_stays_where_nothing_leads_on_the_tables(rt: HostRuntime) -> Result<(), Fail> {
-    let mut tables = open(rt.alloc())?;
-    let works = abort_stays(&mut tables);
-    drop(tables);
+    let works = goes(rt.alloc(), abort_stays)?;
     assert!(rt; works);
     Ok(())
 }
 
-/// Returns whether one that was never initiated would close a cycle with itself alone, and not by a group commit.
-fn stranger_closes_its_own_cycle(tables: &mut Tables) -> bool {
-    let (stranger, other) = (Txn(99), Txn(98));
-    tables.would_cycle(Kind::Cd, stranger, stranger)
-        && tables.would_cycle(Kind::Ad, stranger, stranger)
-        && !tables.would_cycle(Kind::Gc, stranger, stranger)
-        && !tables.would_cycle(Kind::Cd, stranger, other)
-}
-
 #[test]
 fn cycles_on_the_tables(rt: HostRuntime) -> Result<(), Fail> {
-    let mut tables = open(rt.alloc())?;
-    let works = cycles_show(&mut tables) && stranger_closes_its_own_cycle(&mut tables);
-    drop(tables);
+    let works = goes(rt.alloc(), cycles_show)?;
     assert!(rt; works);
     Ok(())
 }
