@@ -1,8 +1,8 @@
 //! Checks scripts between a reader and a writer that take no memory.
 
-use crate::devices::{Reader, Writer, taking, whole};
 use asset_check::check_script;
 use asset_scripts::{Device, RunEnd, ScriptFault};
+use asset_test_tools::{Reader, Writer, taking, whole};
 use std::alloc::Global;
 
 /// How a check ended, which devices failed, how many bytes of the wanted text were not written, and whether those that were

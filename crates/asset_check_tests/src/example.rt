@@ -2,9 +2,9 @@
 //! follows, with its transcript.
 
 use crate::checks::gives;
-use crate::devices::{taking, whole};
 use asset_cli::run_script;
 use asset_scripts::{Device, RunEnd};
+use asset_test_tools::{DEADLOCK, taking, whole};
 use std::alloc::Global;
 
 /// The script `mistakes.asset`.
@@ -60,32 +60,7 @@ fn mistakes_are_named(rt: HostRuntime) {
     );
 }
 
-/// The script `deadlock.asset`.
-const DEADLOCK: &str = "\
-# 7 and 8 wait for each other, and 9 for 7; 10 may not commit before 9 has ended.
-object 1 100
-object 2 200
-initiate 7
-initiate 8
-initiate 9
-initiate 10
-begin 7
-begin 8
-begin 9
-begin 10
-write 7 1 50
-write 8 2 60
-# Each of these is answered wait.
-read 7 2
-read 8 1
-write 9 1 70
-# 10 depends on 9, so its commit waits too.
-depend cd 9 10
-complete 10
-commit 10
-";
-
-/// Its transcript.
+/// The transcript of `DEADLOCK`.
 const DEADLOCK_OUT: &str =
     "ok\nok\nok\nok\nok\nok\nok\nok\nok\nok\nwait\nwait\nwait\nok\nok\nwait\n";
 

@@ -1,8 +1,8 @@
 //! Devices that fail, and memory that runs out.
 
 use crate::checks::{Left, check, is_stopped, is_whole};
-use crate::devices::{Reader, Writer, taking, whole};
 use asset_scripts::{RunEnd, ScriptFault};
+use asset_test_tools::{failing, taking, taking_pieces, whole};
 use std::alloc::Global;
 
 /// A script with two bad lines.
@@ -11,24 +11,16 @@ const SCRIPT: &[u8] = b"object 1 5\nobject 1 6\nbegin 7\nread 7 x\n";
 /// What is printed of it.
 const TEXT: &str = "line 2: object 1 given twice\nline 4: not a number: x\n";
 
-/// Returns a writer that takes three bytes at a time, for `calls` times; then it fails, or takes nothing.
-fn taking_pieces(calls: usize, takes_nothing: bool) -> Writer<'static> {
-    Writer {
-        wanted: TEXT.as_bytes(),
-        same: true,
-        piece: 3,
-        calls,
-        takes_nothing,
-    }
-}
-
-/// Checks the script. If memory runs out once, it is checked again.
+/// Checks the script. The writer takes three bytes at a time, for `calls` times; then it fails, or takes nothing. If memory runs out
+/// once, the script is checked again.
 fn check_again(alloc: Global, calls: usize, takes_nothing: bool) -> Left {
-    let left = check(alloc, whole(SCRIPT), taking_pieces(calls, takes_nothing));
+    let writer = taking_pieces(TEXT, 3, calls, takes_nothing);
+    let left = check(alloc, whole(SCRIPT), writer);
     if !is_stopped(&left, ScriptFault::NoMemory, TEXT.len()) {
         return left;
     }
-    check(alloc, whole(SCRIPT), taking_pieces(calls, takes_nothing))
+    let writer = taking_pieces(TEXT, 3, calls, takes_nothing);
+    check(alloc, whole(SCRIPT), writer)
 }
 
 /// Returns whether a writer that fails at each write leaves a prefix.
@@ -52,13 +44,7 @@ fn writer_fails_at_each_write(rt: HostRuntime) {
 /// Checks the first bytes of the script, after which the reader fails.
 fn check_broken(alloc: Global, count: usize) -> Left {
     let (given, _) = SCRIPT.split_at(count.min(SCRIPT.len()));
-    let reader = Reader {
-        comment: 0,
-        left: given,
-        piece: 5,
-        fails: true,
-    };
-    check(alloc, reader, taking(TEXT))
+    check(alloc, failing(given, 5), taking(TEXT))
 }
 
 /// Returns whether a reader that fails after these bytes is told of, and nothing is written. If memory runs out once, they are checked

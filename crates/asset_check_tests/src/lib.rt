@@ -5,8 +5,6 @@
 #[cfg(test)]
 mod checks;
 #[cfg(test)]
-mod devices;
-#[cfg(test)]
 mod drawn;
 #[cfg(test)]
 mod example;

@@ -1,8 +1,8 @@
 //! Each reason, by lines that have it.
 
 use crate::checks::{check, gives, is_whole};
-use crate::devices::{Reader, taking};
 use asset_scripts::RunEnd;
+use asset_test_tools::{after_comment, taking};
 use std::alloc::Global;
 
 /// Lines with what is printed of each if it is the only one.
@@ -141,13 +141,7 @@ fn good_lines_have_none(rt: HostRuntime) {
 
 /// Returns whether a comment of this size gives this text and ends so.
 fn comment_gives(alloc: Global, size: usize, text: &str, end: RunEnd) -> bool {
-    let reader = Reader {
-        comment: size,
-        left: b"",
-        piece: 1_000,
-        fails: false,
-    };
-    let left = check(alloc, reader, taking(text));
+    let left = check(alloc, after_comment(size, b"", 1_000), taking(text));
     is_whole(&left, end)
 }
 

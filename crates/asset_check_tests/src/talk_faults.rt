@@ -1,8 +1,8 @@
 //! Readers and writers that fail, and memory that runs out.
 
-use crate::devices::{Reader, Writer, taking, whole};
 use crate::talks::{Left, is_whole, talk};
 use asset_scripts::{RunEnd, ScriptFault};
+use asset_test_tools::{failing, taking, taking_pieces, whole};
 use std::alloc::Global;
 
 /// A conversation with two bad lines.
@@ -14,21 +14,11 @@ const REPLIES: &str = "ok\nline 2: bad command\nok\nline 4: bad command\n";
 /// The reasons of its bad lines.
 const REASONS: &str = "line 2: begin wants t\nline 4: read wants t x\n";
 
-/// Returns a writer that takes three bytes at a time, for `calls` times; then it fails, or takes nothing.
-fn taking_pieces(wanted: &'static str, calls: usize, takes_nothing: bool) -> Writer<'static> {
-    Writer {
-        wanted: wanted.as_bytes(),
-        same: true,
-        piece: 3,
-        calls,
-        takes_nothing,
-    }
-}
-
-/// Holds the conversation with a writer of replies and one of reasons, which take this many pieces.
+/// Holds the conversation with a writer of replies and one of reasons, which take this many pieces of three bytes; then they fail, or
+/// take nothing.
 fn talk_to(alloc: Global, replies: usize, reasons: usize) -> Left {
-    let replies = taking_pieces(REPLIES, replies, replies % 2 == 0);
-    let reasons = taking_pieces(REASONS, reasons, reasons % 2 == 0);
+    let replies = taking_pieces(REPLIES, 3, replies, replies % 2 == 0);
+    let reasons = taking_pieces(REASONS, 3, reasons, reasons % 2 == 0);
     talk(alloc, whole(SCRIPT), replies, reasons, 100)
 }
 
@@ -75,13 +65,13 @@ fn writer_of_reasons_fails_at_each_write(rt: HostRuntime) {
 
 /// Holds the conversation with a reader that fails after the bytes of the script.
 fn talk_broken(alloc: Global) -> Left {
-    let reader = Reader {
-        comment: 0,
-        left: SCRIPT,
-        piece: 5,
-        fails: true,
-    };
-    talk(alloc, reader, taking(REPLIES), taking(REASONS), 100)
+    talk(
+        alloc,
+        failing(SCRIPT, 5),
+        taking(REPLIES),
+        taking(REASONS),
+        100,
+    )
 }
 
 /// Returns whether each complete line was answered, and the fault told of, if a reader fails after the bytes of the script. If memory

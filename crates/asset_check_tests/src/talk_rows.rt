@@ -1,8 +1,8 @@
 //! Conversations with what is replied and which reasons are given, by pieces of any size.
 
-use crate::devices::{Reader, taking};
 use crate::talks::{is_whole, talk};
 use asset_scripts::RunEnd;
+use asset_test_tools::{after_comment, by_pieces, taking};
 use std::alloc::Global;
 
 /// A conversation: what comes, what is replied, the reasons of bad lines, and how it ends.
@@ -49,12 +49,7 @@ pub(crate) const ROWS: [Row; 5] = [
 
 /// Returns whether a conversation that comes by pieces of this size is held as the row says.
 fn is_held(alloc: Global, row: &Row, piece: usize) -> bool {
-    let reader = Reader {
-        comment: 0,
-        left: row.script,
-        piece,
-        fails: false,
-    };
+    let reader = by_pieces(row.script, piece);
     let left = talk(alloc, reader, taking(row.replies), taking(row.reasons), 6);
     is_whole(&left, row.end)
 }
@@ -77,12 +72,7 @@ fn conversations_are_held_by_pieces(rt: HostRuntime) {
 
 /// Returns whether a comment of this size, and then a script, has these replies and reasons.
 fn comment_gives(alloc: Global, size: usize, script: &[u8], replies: &str, reasons: &str) -> bool {
-    let reader = Reader {
-        comment: size,
-        left: script,
-        piece: 1_000,
-        fails: false,
-    };
+    let reader = after_comment(size, script, 1_000);
     let left = talk(alloc, reader, taking(replies), taking(reasons), 100);
     left.missing == (0, 0) && left.same && left.failed == (false, false, false)
 }

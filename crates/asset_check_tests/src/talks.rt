@@ -2,9 +2,9 @@
 
 ghost use Rattle.asset_core.specs.OpenFaults.{IsCapacity};
 
-use crate::devices::{Reader, Writer};
 use asset_scripts::{Device, RunEnd, ScriptFault};
 use asset_shell::run_shell;
+use asset_test_tools::{Reader, Writer};
 use std::alloc::Global;
 
 /// How a conversation ended, which devices failed, how many bytes of the wanted replies and reasons were not written, and whether

@@ -1,8 +1,8 @@
 //! Calls that other calls make, made by themselves. If memory runs out once, nothing has changed and the call is made again.
 
-use crate::devices::{Reader, whole};
 use asset_names::Ob;
 use asset_scripts::{Device, OpeningObjects, ScriptFault, read_all};
+use asset_test_tools::{Reader, whole};
 use std::alloc::Global;
 
 /// Reads all that a reader gives.

@@ -1,28 +1,20 @@
 //! Broken scripts, by each word: what stands before the first bad line is run, and reports name that line alone.
 
-use crate::devices::{Reader, taking};
 use crate::scripts::{Left, WORDS, is_stopped, is_whole, run};
 use asset_cli::Work;
 use asset_scripts::{RunEnd, ScriptFault};
+use asset_test_tools::{after_comment, taking};
 use std::alloc::Global;
-
-/// Returns a reader that gives `comment` times `#`, and then these bytes.
-fn after_comment(comment: usize, script: &[u8]) -> Reader<'_> {
-    Reader {
-        comment,
-        left: script,
-        piece: 65_536,
-        fails: false,
-    }
-}
 
 /// Runs a script after a comment. If memory runs out once, it is run again.
 fn run_again(alloc: Global, work: Work, comment: usize, script: &[u8], text: &str) -> Left {
-    let left = run(alloc, work, after_comment(comment, script), taking(text));
+    let reader = after_comment(comment, script, 65_536);
+    let left = run(alloc, work, reader, taking(text));
     if !is_stopped(&left, ScriptFault::NoMemory, text.len()) {
         return left;
     }
-    run(alloc, work, after_comment(comment, script), taking(text))
+    let reader = after_comment(comment, script, 65_536);
+    run(alloc, work, reader, taking(text))
 }
 
 /// Returns the first word that does not write its text of a script after a comment, or does not end so.

@@ -1,9 +1,9 @@
 //! Job scripts and how they ended, while a request for memory is refused or a device fails.
 
-use crate::devices::{Reader, Writer, taking, whole};
 use asset_jobs::{JobAct, JobScript, JobText, JobsFault, read_jobs, write_jobs};
 use asset_names::{Counts, Ob, Txn};
 use asset_scripts::{Device, ScriptFault};
+use asset_test_tools::{Reader, Writer, by_pieces, taking, whole};
 use std::alloc::Global;
 
 /// Two jobs over two objects, of which one gives up.
@@ -34,13 +34,7 @@ fn is_two_jobs(script: &JobScript) -> bool {
 
 /// Returns whether a script says the two jobs. If memory runs out once, it is read again.
 fn reads_two_jobs(alloc: Global, piece: usize) -> bool {
-    let reader = Reader {
-        comment: 0,
-        left: TWO_JOBS,
-        piece,
-        fails: false,
-    };
-    let read_once = match read(alloc, reader) {
+    let read_once = match read(alloc, by_pieces(TWO_JOBS, piece)) {
         Err(JobsFault::NoMemory) => read(alloc, whole(TWO_JOBS)),
         read_once => read_once,
     };

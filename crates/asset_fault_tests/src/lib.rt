@@ -7,8 +7,6 @@ mod alone;
 #[cfg(test)]
 mod broken;
 #[cfg(test)]
-mod devices;
-#[cfg(test)]
 mod facility;
 #[cfg(test)]
 mod jobs;

@@ -3,11 +3,11 @@
 
 ghost use Rattle.std.specs.Prelude.{◌<◌};
 
-use crate::devices::{Reader, taking};
 use crate::rows::{ONE, ROWS};
 use crate::scripts::{Left, WORDS, is_stopped, is_whole, run};
 use asset_cli::{Report, Work};
 use asset_scripts::{RunEnd, ScriptFault};
+use asset_test_tools::{by_pieces, endless, failing, taking};
 use std::alloc::Global;
 
 /// A text that no run writes.
@@ -26,16 +26,6 @@ fn run_cut(alloc: Global, work: Work, before: &[u8], piece: usize) -> Left {
         left = run(alloc, work, failing(before, piece), taking(OTHER));
     }
     left
-}
-
-/// Returns a reader that fails after these bytes.
-fn failing(before: &[u8], piece: usize) -> Reader<'_> {
-    Reader {
-        comment: 0,
-        left: before,
-        piece,
-        fails: true,
-    }
 }
 
 /// Returns whether each cut of a transaction's script is a fault of the reader, by a word.
@@ -66,16 +56,6 @@ fn bad_line_is_not_looked_at(alloc: Global, work: Work) -> bool {
 fn reader_that_fails_hides_a_bad_line(rt: HostRuntime) {
     for work in WORDS {
         assert!(rt; bad_line_is_not_looked_at(rt.alloc(), work), "at {work:?}");
-    }
-}
-
-/// Returns a reader that gives `#` for ever.
-fn endless() -> Reader<'static> {
-    Reader {
-        comment: usize::MAX,
-        left: b"",
-        piece: 65_536,
-        fails: false,
     }
 }
 
@@ -113,21 +93,11 @@ fn comment_without_an_end_is_given_up_in_listing(rt: HostRuntime) {
     assert!(rt; comment_is_given_up(rt.alloc(), Work::Steps));
 }
 
-/// Returns a reader that gives a script byte by byte.
-fn by_bytes(script: &[u8]) -> Reader<'_> {
-    Reader {
-        comment: 0,
-        left: script,
-        piece: 1,
-        fails: false,
-    }
-}
-
 /// Returns whether a script that comes byte by byte is read whole. If memory runs out once, it is run again.
 fn is_read(alloc: Global, work: Work, script: &[u8], text: &str, end: RunEnd) -> bool {
-    let mut left = run(alloc, work, by_bytes(script), taking(text));
+    let mut left = run(alloc, work, by_pieces(script, 1), taking(text));
     if is_stopped(&left, ScriptFault::NoMemory, text.len()) {
-        left = run(alloc, work, by_bytes(script), taking(text));
+        left = run(alloc, work, by_pieces(script, 1), taking(text));
     }
     is_whole(&left, end)
 }

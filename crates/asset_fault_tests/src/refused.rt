@@ -3,10 +3,10 @@
 
 ghost use Rattle.std.specs.Prelude.{◌<◌};
 
-use crate::devices::{taking, whole};
 use crate::rows::{ROWS, Row};
 use crate::scripts::{Left, WORDS, is_stopped, is_whole, run};
 use asset_scripts::ScriptFault;
+use asset_test_tools::{taking, whole};
 use std::alloc::Global;
 
 /// Runs the script of a row for a word.

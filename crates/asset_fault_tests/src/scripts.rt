@@ -1,8 +1,8 @@
 //! Runs scripts between a reader and a writer that take no memory.
 
-use crate::devices::{Reader, Writer};
 use asset_cli::{Report, Work, run_for};
 use asset_scripts::{Device, RunEnd, ScriptFault};
+use asset_test_tools::{Reader, Writer};
 use std::alloc::Global;
 
 /// What a script is run for, in the order in which a row has its texts.

@@ -2,23 +2,12 @@
 
 ghost use Rattle.std.specs.Prelude.{◌<◌};
 
-use crate::devices::{Writer, whole};
 use crate::rows::{ROWS, Row};
 use crate::scripts::{Left, WORDS, is_stopped, is_whole, run};
 use asset_cli::Work;
 use asset_scripts::{RunEnd, ScriptFault};
+use asset_test_tools::{taking_pieces, whole};
 use std::alloc::Global;
-
-/// Returns a writer that takes `piece` bytes at a time, for `calls` times.
-fn taking_pieces(text: &str, piece: usize, calls: usize, takes_nothing: bool) -> Writer<'_> {
-    Writer {
-        wanted: text.as_bytes(),
-        same: true,
-        piece,
-        calls,
-        takes_nothing,
-    }
-}
 
 /// Runs the script of a row for a word. The writer takes three bytes at a time, for `calls` times; then it fails, or takes
 /// nothing. If memory runs out once, the script is run again.

@@ -4,20 +4,45 @@ use std::io;
 
 /// Gives `comment` times `#` and then the bytes that are left, at most `piece` at a time. Then it ends, or fails.
 #[derive(Drop)]
-pub(crate) struct Reader<'a> {
-    pub(crate) comment: usize,
-    pub(crate) left: &'a [u8],
-    pub(crate) piece: usize,
-    pub(crate) fails: bool,
+pub struct Reader<'a> {
+    pub comment: usize,
+    pub left: &'a [u8],
+    pub piece: usize,
+    pub fails: bool,
+}
+
+/// Returns a reader that gives `comment` times `#` and then a script, at most `piece` bytes at a time.
+pub fn after_comment(comment: usize, script: &[u8], piece: usize) -> Reader<'_> {
+    Reader {
+        comment,
+        left: script,
+        piece,
+        fails: false,
+    }
+}
+
+/// Returns a reader that gives a script, at most `piece` bytes at a time.
+pub fn by_pieces(script: &[u8], piece: usize) -> Reader<'_> {
+    after_comment(0, script, piece)
 }
 
 /// Returns a reader that gives a script at once.
-pub(crate) fn whole(script: &[u8]) -> Reader<'_> {
+pub fn whole(script: &[u8]) -> Reader<'_> {
+    by_pieces(script, 65_536)
+}
+
+/// Returns a reader that gives `#` for ever.
+pub fn endless() -> Reader<'static> {
+    after_comment(usize::MAX, b"", 65_536)
+}
+
+/// Returns a reader that gives these bytes, at most `piece` at a time, and then fails.
+pub fn failing(before: &[u8], piece: usize) -> Reader<'_> {
     Reader {
         comment: 0,
-        left: script,
-        piece: 65_536,
-        fails: false,
+        left: before,
+        piece,
+        fails: true,
     }
 }
 
@@ -44,23 +69,28 @@ impl io::Read for Reader<'_> {
 /// Compares what it is given with the text that is wanted, at most `piece` bytes at a time. Once it has been asked `calls`
 /// times it fails, or takes nothing.
 #[derive(Drop)]
-pub(crate) struct Writer<'a> {
-    pub(crate) wanted: &'a [u8],
-    pub(crate) same: bool,
-    pub(crate) piece: usize,
-    pub(crate) calls: usize,
-    pub(crate) takes_nothing: bool,
+pub struct Writer<'a> {
+    pub wanted: &'a [u8],
+    pub same: bool,
+    pub piece: usize,
+    pub calls: usize,
+    pub takes_nothing: bool,
 }
 
-/// Returns a writer that takes everything at once.
-pub(crate) fn taking(text: &str) -> Writer<'_> {
+/// Returns a writer that takes at most `piece` bytes of the text at a time, for `calls` times; then it fails, or takes nothing.
+pub fn taking_pieces(text: &str, piece: usize, calls: usize, takes_nothing: bool) -> Writer<'_> {
     Writer {
         wanted: text.as_bytes(),
         same: true,
-        piece: usize::MAX,
-        calls: usize::MAX,
-        takes_nothing: false,
+        piece,
+        calls,
+        takes_nothing,
     }
+}
+
+/// Returns a writer that takes everything at once.
+pub fn taking(text: &str) -> Writer<'_> {
+    taking_pieces(text, usize::MAX, usize::MAX, false)
 }
 
 impl io::Write for Writer<'_> {
