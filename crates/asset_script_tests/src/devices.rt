@@ -2,92 +2,24 @@
 use crate::memory::{ITS_TEXT, ONE_TRANSACTION};
 use asset_cli::run_script;
 use asset_scripts::{Device, RunEnd, ScriptFault};
+use asset_test_tools::{endless, failing, taking_pieces};
 use std::alloc::Global;
-use std::io;
 use std::test::Fail;
-
-/// Gives the bytes that are left, three at a time, and then fails.
-#[derive(Drop)]
-struct FailingReader<'a> {
-    left: &'a [u8],
-}
-
-impl io::Read for FailingReader<'_> {
-    fn read(&mut self, buf: &mut [u8]) -> io::Result<usize> {
-        let count = self.left.len().min(buf.len()).min(3);
-        if count == 0 {
-            return Err(io::Error::from(io::ErrorKind::Other));
-        }
-        let (piece, rest) = self.left.split_at(count);
-        buf[..count].copy_from_slice(piece);
-        self.left = rest;
-        Ok(count)
-    }
-}
-
-/// Gives `#` for ever.
-#[derive(Drop)]
-struct EndlessReader;
-
-impl io::Read for EndlessReader {
-    fn read(&mut self, buf: &mut [u8]) -> io::Result<usize> {
-        buf.fill(b'#');
-        Ok(buf.len())
-    }
-}
-
-/// Takes three bytes at a time, and fails once it has been asked `left` times.
-#[derive(Drop)]
-struct FailingWriter<'a> {
-    left: u64,
-    taken: &'a mut Vec<u8>,
-}
-
-impl io::Write for FailingWriter<'_> {
-    fn write(&mut self, buf: &[u8]) -> io::Result<usize> {
-        if self.left == 0 {
-            return Err(io::Error::from(io::ErrorKind::Other));
-        }
-        self.left -= 1;
-        let count = buf.len().min(3);
-        self.taken.extend_from_slice(&buf[..count])?;
-        Ok(count)
-    }
-
-    fn flush(&mut self) -> io::Result<()> {
-        Ok(())
-    }
-}
-
-/// Takes nothing, and does not say why.
-#[derive(Drop)]
-struct FullWriter;
-
-impl io::Write for FullWriter {
-    fn write(&mut self, _buf: &[u8]) -> io::Result<usize> {
-        Ok(0)
-    }
-
-    fn flush(&mut self) -> io::Result<()> {
-        Ok(())
-    }
-}
 
 /// Returns whether what the reader gives and the writer takes in pieces is read and written whole.
 fn is_read_and_written_whole(alloc: Global) -> bool {
-    let mut taken = Vec::new(alloc);
+    let mut writer = taking_pieces("refused unknown 7\n", 3, 6, false);
     let mut input = Device::new(&b"begin 7\n"[..]);
-    let mut output = Device::new(FailingWriter {
-        left: 6,
-        taken: &mut taken,
-    });
+    let mut output = Device::new(&mut writer);
     let end = run_script(alloc, &mut input, &mut output, 10_000);
     let asked = (input.asked(), output.asked());
     let failed = input.failed() || output.failed();
+    drop(output);
     end == Ok(RunEnd::Finished)
         && asked == (2, 6)
         && !failed
-        && taken.as_slice() == &b"refused unknown 7\n"[..]
+        && writer.same
+        && writer.wanted.is_empty()
 }
 
 #[test]
@@ -98,7 +30,7 @@ fn reads_and_writes_everything(rt: HostRuntime) {
 /// Returns whether a run writes nothing and answers Read if its reader fails after these bytes.
 fn failing_reader_answers_read(alloc: Global, before: &[u8]) -> bool {
     let mut written = Vec::new(alloc);
-    let mut input = Device::new(FailingReader { left: before });
+    let mut input = Device::new(failing(before, 3));
     let mut output = Device::new(&mut written);
     let end = run_script(alloc, &mut input, &mut output, 10_000);
     end == Err(ScriptFault::Read) && input.failed() && written.is_empty()
@@ -124,7 +56,7 @@ fn reader_fails_past_one_piece(rt: HostRuntime) -> Result<(), Fail> {
 /// Returns whether a run writes nothing and answers Read if its reader never ends.
 fn endless_reader_answers_read(alloc: Global) -> bool {
     let mut written = Vec::new(alloc);
-    let mut input = Device::new(EndlessReader);
+    let mut input = Device::new(endless());
     let mut output = Device::new(&mut written);
     let end = run_script(alloc, &mut input, &mut output, 10_000);
     end == Err(ScriptFault::Read) && !input.failed() && input.asked() == 1025 && written.is_empty()
@@ -135,33 +67,31 @@ fn endless_reader_is_given_up(rt: HostRuntime) {
     assert!(rt; endless_reader_answers_read(rt.alloc()));
 }
 
-/// Returns whether a run whose writer fails after `left` requests has written what was taken until then,
+/// Returns whether a run whose writer fails after `calls` requests has written what was taken until then,
 /// and answers Write if that is not the whole text.
-fn failing_writer_answers_write(alloc: Global, left: u8) -> bool {
-    let text = ITS_TEXT.as_bytes();
-    let length = text.len().min(3 * left as usize);
-    let fails = length < text.len();
-    let mut taken = Vec::new(alloc);
+fn failing_writer_answers_write(alloc: Global, calls: usize) -> bool {
+    let missing = ITS_TEXT.len().saturating_sub(calls.saturating_mul(3));
+    let fails = missing > 0;
+    let mut writer = taking_pieces(ITS_TEXT, 3, calls, false);
     let mut input = Device::new(ONE_TRANSACTION);
-    let mut output = Device::new(FailingWriter {
-        left: left as u64,
-        taken: &mut taken,
-    });
+    let mut output = Device::new(&mut writer);
     let end = run_script(alloc, &mut input, &mut output, 10_000);
+    let failed = output.failed();
+    drop(output);
     let expected = if fails {
         Err(ScriptFault::Write)
     } else {
         Ok(RunEnd::Finished)
     };
-    end == expected && output.failed() == fails && taken.as_slice() == &text[..length]
+    end == expected && failed == fails && writer.same && writer.wanted.len() == missing
 }
 
 #[test]
 fn writer_fails_at_each_write(rt: HostRuntime) {
-    for left in 0..=10u8 {
+    for calls in 0..=10usize {
         assert!(rt;
-            failing_writer_answers_write(rt.alloc(), left),
-            "after {left} writes"
+            failing_writer_answers_write(rt.alloc(), calls),
+            "after {calls} writes"
         );
     }
 }
@@ -169,7 +99,7 @@ fn writer_fails_at_each_write(rt: HostRuntime) {
 #[test]
 fn writer_that_takes_nothing_has_failed(rt: HostRuntime) {
     let mut input = Device::new(ONE_TRANSACTION);
-    let mut output = Device::new(FullWriter);
+    let mut output = Device::new(taking_pieces(ITS_TEXT, 3, 0, true));
     let end = run_script(rt.alloc(), &mut input, &mut output, 10_000);
     assert_eq!(rt; end, Err(ScriptFault::Write));
     assert!(rt; output.failed());
