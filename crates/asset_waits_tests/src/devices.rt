@@ -1,55 +1,19 @@
 //! Devices that fail.
 use asset_scripts::{Device, RunEnd, ScriptFault};
 use asset_standing::waits_script;
+use asset_test_tools::{failing, taking_pieces};
 use std::alloc::Global;
-use std::io;
 
-/// A script of one transaction, whose report has ten bytes.
+/// A script of one transaction.
 const ONE: &[u8] = b"initiate 7\nbegin 7\n";
 
-/// Gives the bytes that are left, and then fails.
-#[derive(Drop)]
-struct Broken<'a> {
-    left: &'a [u8],
-}
-
-impl io::Read for Broken<'_> {
-    fn read(&mut self, buf: &mut [u8]) -> io::Result<usize> {
-        if self.left.is_empty() {
-            return Err(io::Error::from(io::ErrorKind::Other));
-        }
-        let count = buf.len().min(self.left.len());
-        let (given, rest) = self.left.split_at(count);
-        buf[..count].copy_from_slice(given);
-        self.left = rest;
-        Ok(count)
-    }
-}
-
-/// Takes this many bytes, one at a time, and then fails.
-#[derive(Drop)]
-struct Short {
-    room: usize,
-}
-
-impl io::Write for Short {
-    fn write(&mut self, buf: &[u8]) -> io::Result<usize> {
-        if self.room == 0 || buf.is_empty() {
-            return Err(io::Error::from(io::ErrorKind::Other));
-        }
-        self.room -= 1;
-        Ok(1)
-    }
-
-    fn flush(&mut self) -> io::Result<()> {
-        Ok(())
-    }
-}
+/// Its report.
+const ITS_REPORT: &str = "7 running\n";
 
 /// Returns how a report of a script ends whose writer takes this many bytes.
 fn short_once(alloc: Global, room: usize) -> Result<RunEnd, ScriptFault> {
     let mut input = Device::new(ONE);
-    let mut output = Device::new(Short { room });
+    let mut output = Device::new(taking_pieces(ITS_REPORT, 1, room, false));
     waits_script(alloc, &mut input, &mut output, 10_000)
 }
 
@@ -64,7 +28,7 @@ fn ends_short(alloc: Global, room: usize) -> Result<RunEnd, ScriptFault> {
 /// Returns how a report ends whose reader fails after these bytes, and how many bytes it wrote.
 fn broken_once(alloc: Global, left: &[u8]) -> (Result<RunEnd, ScriptFault>, usize) {
     let mut written = Vec::new(alloc);
-    let mut input = Device::new(Broken { left });
+    let mut input = Device::new(failing(left, 65_536));
     let mut output = Device::new(&mut written);
     let end = waits_script(alloc, &mut input, &mut output, 10_000);
     drop(output);
