@@ -5,29 +5,9 @@ use crate::running::{list, run_over};
 use asset_program::Next;
 use asset_requests::ArgumentsFault;
 use asset_scripts::ScriptFault;
-use std::io;
+use asset_test_tools::{failing, taking_pieces};
 use std::process::Abort;
 use std::test::Fail;
-
-/// Fails at each call.
-#[derive(Drop)]
-struct Failing;
-
-impl io::Read for Failing {
-    fn read(&mut self, _buf: &mut [u8]) -> io::Result<usize> {
-        Err(io::Error::from(io::ErrorKind::Other))
-    }
-}
-
-impl io::Write for Failing {
-    fn write(&mut self, _buf: &[u8]) -> io::Result<usize> {
-        Err(io::Error::from(io::ErrorKind::Other))
-    }
-
-    fn flush(&mut self) -> io::Result<()> {
-        Ok(())
-    }
-}
 
 /// A script of one step.
 const SCRIPT: &[u8] = b"initiate 7\n";
@@ -40,7 +20,7 @@ fn failing_reader_ends_with_one(rt: HostRuntime) -> Result<(), Fail> {
     let next = run_over(
         rt.alloc(),
         &arguments,
-        Failing,
+        failing(b"", 1),
         &mut written,
         &mut complaints,
     );
@@ -59,7 +39,8 @@ fn expect_without_output(
 ) -> Result<(), Fail> {
     let arguments = Ok(list(rt.alloc(), texts)?);
     let mut complaints = Vec::new(rt.alloc());
-    let next = run_over(rt.alloc(), &arguments, SCRIPT, Failing, &mut complaints);
+    let writer = taking_pieces("", 1, 0, false);
+    let next = run_over(rt.alloc(), &arguments, SCRIPT, writer, &mut complaints);
     let came = (next, str::from_utf8(&complaints).ok());
     assert_eq!(rt; came, (Next::Exit(status), Some(errors)), "at {texts:?}");
     Ok(())
