@@ -14,7 +14,6 @@ use asset_names::NoMemory;
 use asset_picture::push_picture;
 use asset_reports::{push_groups, push_pruned, push_serial, push_sources};
 use asset_scripts::{Prints, Render, RunEnd, ScriptFault};
-use asset_sources::Trace;
 use std::alloc::Global;
 
 /// A report that is made of the history that a script leaves.
@@ -111,14 +110,6 @@ fn render_report(
     }
 }
 
-/// Finds the sources of what was read in a history, and appends them.
-fn push_found(alloc: Global, history: History, text: &mut String) -> Result<(), NoMemory>
-    ensures { OnOk result (string_bytes text.new ≡ string_bytes text.old ++ (sourced history).text) }
-{
-    let trace = Trace::of(alloc, history)?;
-    push_sources(&trace, text)
-}
-
 /// Appends the sources of what was read, unless a line is bad.
 fn render_sources(
     alloc: Global,
@@ -132,7 +123,7 @@ fn render_sources(
     ensures memory { IfErr result (λ fault. fault ≡ ScriptFault.NoMemory) }
 {
     match play(alloc, bytes, capacity, text, Work::Sources) {
-        Ok(Played::Finished(history)) => match push_found(alloc, history, text) {
+        Ok(Played::Finished(history)) => match push_sources(alloc, history, text) {
             Ok(()) => Ok(RunEnd::Finished),
             Err(NoMemory) => Err(ScriptFault::NoMemory),
         },

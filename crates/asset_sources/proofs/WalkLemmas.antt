@@ -1,6 +1,6 @@
 -- One more entry of a walk, and what it finds there.
 use Rattle.std.proofs.Common.{◌≡◌, ℕ, ◌+◌, ◌<◌, ◌≤◌, ℤ, suc, zero, Bool, true, cond, List, [], ◌∷◌, ◌++◌, length, take, drop, reverse, refl, sym, ap, subst, ◌∙◌, arith, Some, None, inl, inr}
-use Rattle.std.specs.Prelude.{slice_get, ◌^◌}
+use Rattle.std.specs.Prelude.{Option, option_map, slice_get, ◌^◌}
 use Rattle.std.proofs.lemmas.Bool.{eq-eqb, ne_eqb}
 use Rattle.std.proofs.lemmas.List.{length-append, length-reverse, length-take-le}
 use Rattle.std.proofs.lemmas.Option.{slice_get_cases, slice_get_within}
@@ -28,7 +28,8 @@ use Rattle.asset_ends.specs.Standing.{Standing, values_of}
 use Rattle.asset_steps.specs.Ready.{IsReady}
 use Rattle.asset_steps.proofs.AnswerLemmas.{read_unrefused}
 use Rattle.asset_steps.proofs.ReadyLemmas.{ready}
-use Rattle.asset_sources.specs.Sourced.{source_from, source_of, sources_of, source_at}
+use Rattle.asset_sources.specs.declared.sourced.Source.{Source}
+use Rattle.asset_sources.specs.Sourced.{source_from, source_of, sources_of, source_at, read_with, read_of}
 use Rattle.asset_sources.specs.Walked.{first_entries, ShowsFirstNumbered}
 
 -- ---- entries in order
@@ -167,6 +168,60 @@ no_value older (Depend kind a b) reply other = refl
 no_value older (Commit t) reply other = refl
 no_value older (Abort t) reply other = refl
 no_value older (WaitFor t) reply other = refl
+
+-- without a source nothing is told
+no_source : (step : Step) (reply : Reply) → read_of step reply None ≡ None
+unfolding read_of
+no_source step Reply'.Done = refl
+no_source step (Reply'.Value v) = refl
+no_source step Reply'.Committed = refl
+no_source step Reply'.Aborted = refl
+no_source step (Reply'.Refused refusal) = refl
+
+-- what is told of a step with its number is what is told of the step
+pub told_writing : (n : ℕ) (older : List Entry) (step : Step) (reply : Reply) → read_of (writing n step) reply (source_of older step reply) ≡ read_of step reply (source_of older step reply)
+unfolding source_of writing
+told_writing n older (Read t x) reply = refl
+told_writing n older (Write t x v) reply = no_source _ reply ∙ sym (no_source _ reply)
+told_writing n older (Add t x v) reply = no_source _ reply ∙ sym (no_source _ reply)
+told_writing n older (Initiate t parent) reply = refl
+told_writing n older (Begin t) reply = refl
+told_writing n older (Complete t) reply = refl
+told_writing n older (Permit giver taker obs ops) reply = refl
+told_writing n older (PermitAny giver obs ops) reply = refl
+told_writing n older (Delegate giver taker obs) reply = refl
+told_writing n older (Depend kind a b) reply = refl
+told_writing n older (Commit t) reply = refl
+told_writing n older (Abort t) reply = refl
+told_writing n older (WaitFor t) reply = refl
+
+-- the source of what is told is the source
+told_source : (older : List Entry) (step : Step) (reply : Reply) → option_map (λ (read : Step × ℤ × Source). read.2) (read_of step reply (source_of older step reply)) ≡ source_of older step reply
+unfolding source_of read_of
+told_source older (Read t x) Reply'.Done = refl
+told_source older (Read t x) (Reply'.Value v) = refl
+told_source older (Read t x) Reply'.Committed = refl
+told_source older (Read t x) Reply'.Aborted = refl
+told_source older (Read t x) (Reply'.Refused refusal) = refl
+told_source older (Initiate t parent) reply = rw (no_source (Initiate t parent) reply) refl
+told_source older (Begin t) reply = rw (no_source (Begin t) reply) refl
+told_source older (Write t x v) reply = rw (no_source (Write t x v) reply) refl
+told_source older (Add t x v) reply = rw (no_source (Add t x v) reply) refl
+told_source older (Complete t) reply = rw (no_source (Complete t) reply) refl
+told_source older (Permit giver taker obs ops) reply = rw (no_source (Permit giver taker obs ops) reply) refl
+told_source older (PermitAny giver obs ops) reply = rw (no_source (PermitAny giver obs ops) reply) refl
+told_source older (Delegate giver taker obs) reply = rw (no_source (Delegate giver taker obs) reply) refl
+told_source older (Depend kind a b) reply = rw (no_source (Depend kind a b) reply) refl
+told_source older (Commit t) reply = rw (no_source (Commit t) reply) refl
+told_source older (Abort t) reply = rw (no_source (Abort t) reply) refl
+told_source older (WaitFor t) reply = rw (no_source (WaitFor t) reply) refl
+
+-- the source beside a value is that of what is told
+pub source_told : (older : List Entry) (step asked : Step) (reply : Reply) (found : Option (ℤ × Source)) → read_with asked found ≡ read_of step reply (source_of older step reply)
+    → option_map (λ (one : ℤ × Source). one.1) found ≡ source_of older step reply
+unfolding read_with
+source_told older step asked reply None told = ap (option_map (λ (read : Step × ℤ × Source). read.2)) told ∙ told_source older step reply
+source_told older step asked reply (Some found) told = ap (option_map (λ (read : Step × ℤ × Source). read.2)) told ∙ told_source older step reply
 
 -- an object that is read has the number of its source as its value
 pub numbered_value : (opening : Opening) (older : List Entry) (t : Txn) (x : Ob) (v : ℤ) → length older + 1 < 2 ^ 63 → IsLegal opening ((Read t x, Reply'.Value v) ∷ older)

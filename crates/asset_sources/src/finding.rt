@@ -12,7 +12,7 @@ ghost use Rattle.asset_sources.specs.Sourced.{source_from, source_at, sources_of
 ghost use Rattle.asset_sources.specs.Walked.{ShowsFirstNumbered};
 
 use crate::sourced::Source;
-use crate::walking::{pass, tables_before};
+use crate::walking::{pass_for_source, tables_before};
 use asset_ends::Tables;
 use asset_history::History;
 use asset_names::{NoMemory, Step, Txn};
@@ -48,7 +48,7 @@ fn source_after(
 {
     let mut step = Step::Commit { t: Txn(0) };
     pass_all(history, index, &mut step, tables)?;
-    pass(history, index, &mut step, tables)
+    pass_for_source(history, index, &mut step, tables)
 }
 
 /// Takes tables past the first `count` entries, whose steps are read into the slot. If memory runs out, the tables are of no
@@ -65,7 +65,7 @@ fn pass_all(
     ensures { OnOk result (ShowsFirstNumbered history.now count tables.new) }
 {
     'entries: for i in 0..count {
-        pass(history, i, step, tables)?;
+        pass_for_source(history, i, step, tables)?;
     }
     Ok(())
 }
@@ -97,7 +97,7 @@ fn find_all(
     };
     let mut step = Step::Commit { t: Txn(0) };
     'entries: for i in 0..history.len() {
-        found.push_reserved(pass(history, i, &mut step, tables)?);
+        found.push_reserved(pass_for_source(history, i, &mut step, tables)?);
     }
     Ok(found)
 }

@@ -5,10 +5,12 @@
 
 mod finding;
 mod renumbering;
+mod source_walk;
 mod sourced;
 mod trace;
 mod walking;
 
 pub use finding::{source, sources};
+pub use source_walk::SourceWalk;
 pub use sourced::Source;
 pub use trace::Trace;

@@ -1,13 +1,12 @@
 //! A history with the sources of what was read in it.
 
 ghost use Rattle.std.specs.Prelude.{◌≡◌};
-ghost use Rattle.asset_names.specs.declared.steps.Step.{Step as Asked};
-ghost use Rattle.asset_sources.specs.Sourced.{read_of, read_with};
 
 use crate::finding::sources;
 use crate::sourced::Source;
+use crate::walking::with_source;
 use asset_history::History;
-use asset_names::{NoMemory, Ob, Reply, Step, Txn};
+use asset_names::{NoMemory, Ob, Step, Txn};
 use std::alloc::Global;
 use std::marker::Model;
 
@@ -29,21 +28,6 @@ impl Model for Trace {
     ghost view = { λ t. t.history };
 
     ghost invariant = { λ t. t.sources.items ≡ sources_of t.history.entries };
-}
-
-/// Returns the value of a reply with its source, if it has both.
-#[inline(always)]
-#[tactic(auto, unfolding(crate::specs::Sourced::read_of, crate::specs::Sourced::read_with))]
-fn with_source(reply: Reply, source: Option<Source>) -> Option<(i64, Source)>
-    ensures { (step : Asked) → read_with step result ≡ read_of step reply source }
-{
-    match reply {
-        Reply::Value(v) => match source {
-            Some(source) => Some((v, source)),
-            None => None,
-        },
-        _ => None,
-    }
 }
 
 impl Trace {

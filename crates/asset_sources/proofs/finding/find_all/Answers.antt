@@ -16,11 +16,11 @@ entries-preserved c =
     let there = entry_there all c.entries.i (omega (arith, c.entries-test.true, c.len-i-end.ensures.len)) in
     let before = sources_of (first_entries c.args.history.now c.entries.i) in
     record {
-      stand = c.in_ok-pass.ensures.stand;
+      stand = c.in_ok-pass_for_source.ensures.stand;
       found =
           c.push_reserved.ensures.items
-          ∙ ap (λ (l : List (Option Source)). l ++ c.in_ok-pass.field-0 ∷ []) c.entries.invariant.found
-          ∙ ap (λ (one : Option Source). before ++ one ∷ []) (c.in_ok-pass.ensures.source there.0 there.1)
+          ∙ ap (λ (l : List (Option Source)). l ++ c.in_ok-pass_for_source.field-0 ∷ []) c.entries.invariant.found
+          ∙ ap (λ (one : Option Source). before ++ one ∷ []) (c.in_ok-pass_for_source.ensures.source there.0 there.1)
           ∙ sym (sources_next (reverse all) c.entries.i there.0 there.1);
       room = grind (arith, common_steps);
     }

@@ -7,4 +7,4 @@ pub returns : goal.returns
 returns c =
     let all = c.args.history.now.entries in
     let there = entry_there all c.args.index c.requires.there in
-    IfOk-weaker c.pass.result _ _ (λ found is. is ∙ sym (source_found all c.args.index there.0 there.1)) (c.pass.ensures.source there.0 there.1)
+    IfOk-weaker c.pass_for_source.result _ _ (λ found is. is ∙ sym (source_found all c.args.index there.0 there.1)) (c.pass_for_source.ensures.source there.0 there.1)

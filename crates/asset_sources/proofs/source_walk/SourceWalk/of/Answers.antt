@@ -1,0 +1,5 @@
+use Rattle.std.proofs.Common.{rules}
+use Rattle.asset_sources.proofs.source_walk.SourceWalk.of.Goals as goal
+
+pub returns : goal.returns
+returns c = search rules
