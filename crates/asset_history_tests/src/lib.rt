@@ -1,5 +1,5 @@
-//! The tests of what is made of a history: what is left without its dead groups, its groups, sources and serial order, their
-//! lines, and the reports that print them.
+//! The tests of what is made of a history: what is left without its dead groups, its groups, sources and serial order, and the
+//! reports that print them.
 #![tactic(auto)]
 
 #[cfg(test)]
@@ -15,8 +15,6 @@ mod histories;
 #[cfg(test)]
 mod memory;
 #[cfg(test)]
-mod printing;
-#[cfg(test)]
 mod reports;
 #[cfg(test)]
 mod serial;
@@ -24,3 +22,5 @@ mod serial;
 mod sources;
 #[cfg(test)]
 mod tracing;
+#[cfg(test)]
+mod walks;

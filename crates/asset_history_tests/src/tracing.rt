@@ -23,14 +23,14 @@ fn ask_drawn(core: &mut Core) {
 }
 
 /// Returns the history of the drawn steps.
-fn drawn_history(alloc: Global) -> Result<History, Fail> {
+pub(crate) fn drawn_history(alloc: Global) -> Result<History, Fail> {
     let mut core = opened(alloc, &THREE, DRAWN_ROOM)?;
     ask_drawn(&mut core);
     Ok(core.into_history())
 }
 
 /// Returns the trace of the drawn steps. If memory runs out once, they are asked again.
-fn drawn_trace(alloc: Global) -> Result<Trace, Fail> {
+pub(crate) fn drawn_trace(alloc: Global) -> Result<Trace, Fail> {
     match Trace::of(alloc, drawn_history(alloc)?) {
         Ok(trace) => Ok(trace),
         Err(NoMemory) => Ok(Trace::of(alloc, drawn_history(alloc)?)?),

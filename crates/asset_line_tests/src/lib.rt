@@ -1,4 +1,5 @@
-//! The tests of the lines of scripts, each of which is read beside a parser by words in plain code.
+//! The tests of the lines of scripts: each is read beside a parser by words in plain code, and steps and objects are printed as
+//! lines.
 #![tactic(auto)]
 
 #[cfg(test)]
@@ -7,6 +8,8 @@ mod bad_lines;
 mod drawn;
 #[cfg(test)]
 mod plain;
+#[cfg(test)]
+mod printing;
 #[cfg(test)]
 mod said;
 #[cfg(test)]

@@ -77,7 +77,7 @@ impl Trace {
     /// Puts the step of the entry at the index into the slot. Returns the value that it got and the source of that value, if
     /// `read` would return that read; if it returns `None`, what the slot has afterwards means nothing.
     #[inline(always)]
-    pub fn read_into(&self, index: usize, step: &mut Step) -> Option<(i64, Source)>
+    fn read_into(&self, index: usize, step: &mut Step) -> Option<(i64, Source)>
         ensures past { length self.now.entries ≤ index → result ≡ None }
         ensures read { (entry : Entry) → slice_get (reverse self.now.entries) index ≡ Some entry →
             read_with step.new result ≡ read_of entry.0 entry.1 (source_at self.now.entries index) }
