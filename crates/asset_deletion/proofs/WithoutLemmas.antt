@@ -215,6 +215,12 @@ pub dead_left : (entries : List Entry) (going : List Bool) → ((n : ℕ) → ke
 unfolding without
 dead_left entries going marked = kept_same (keeps (grouping_of entries) going) (stays entries (names_of entries)) entries (dead_exact entries going marked)
 
+-- who is named stays exactly if its group is not dead
+pub undead_left : (entries : List Entry) → kept (λ n. not (dead_in (grouping_of entries) n)) entries ≡ without entries (names_of entries)
+unfolding without
+undead_left entries = kept_same (λ n. not (dead_in (grouping_of entries) n)) (stays entries (names_of entries)) entries
+    (λ n h. ap not (dead_in_group entries n ∙ ap (λ b. b && dead entries n) h) ∙ sym (stays_undead entries n h))
+
 -- ---- what is left
 
 -- an entry that stays is answered alike after the older ones that stay

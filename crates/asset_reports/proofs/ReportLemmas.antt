@@ -1,11 +1,13 @@
 -- What one more object or entry adds to a report.
-use Rattle.std.proofs.Common.{◌≡◌, ℕ, ◌+◌, false, List, [], ◌∷◌, ◌++◌, Some, None, take, reverse, refl, sym, ap, ◌∙◌, append_assoc, append-nil}
+use Rattle.std.proofs.Common.{◌≡◌, ℕ, ◌+◌, Bool, true, false, not, cond, List, [], ◌∷◌, ◌++◌, Some, None, take, reverse, refl, sym, ap, ◌∙◌, append_assoc, append-nil}
 use Rattle.std.specs.Prelude.{ℤ, slice_get}
 use Rattle.asset_entries.proofs.EntryLemmas.{next_entry}
 use Rattle.asset_names.specs.declared.names.Ob.{Ob}
 use Rattle.asset_names.specs.Steps.{Opening, Entry}
+use Rattle.asset_names.specs.Groups.{actor, kept}
 use Rattle.asset_printing.specs.Printed.{step_text}
 use Rattle.asset_deletion.specs.Grouping.{Grouping}
+use Rattle.asset_deletion.proofs.WithoutLemmas.{kept_next}
 use Rattle.asset_reports.specs.Groups.{is_dead_name, members_are_dead}
 use Rattle.asset_sources.specs.Sourced.{source_at}
 use Rattle.asset_sources.proofs.WalkLemmas.{older_length, source_found}
@@ -21,6 +23,18 @@ pub steps_more : (entries : List Entry) (i : ℕ) (entry : Entry) → slice_get 
     → steps_text (reverse (take (i + 1) entries)) ≡ steps_text (reverse (take i entries)) ++ (step_text entry.0 ++ 10 ∷ [])
 unfolding steps_text
 steps_more entries i entry at = rw (next_entry entries i entry at) refl
+
+-- the steps with one more entry of those that pass the test, whose step is printed if it does
+pub steps_kept : (out : ℕ → Bool) (entries : List Entry) (i : ℕ) (entry : Entry) → slice_get entries i ≡ Some entry
+    → steps_text (kept (λ n. not (out n)) (reverse (take (i + 1) entries))) ≡ steps_text (kept (λ n. not (out n)) (reverse (take i entries))) ++ cond (out (actor entry.0).0) [] (step_text entry.0 ++ 10 ∷ [])
+unfolding steps_text
+steps_kept out entries i entry at = ap steps_text (kept_next (λ n. not (out n)) entries i entry at) ∙ go (out (actor entry.0).0) where
+  older : List Entry
+  older = kept (λ n. not (out n)) (reverse (take i entries))
+
+  go : (b : Bool) → steps_text (cond (not b) (entry ∷ older) older) ≡ steps_text older ++ cond b [] (step_text entry.0 ++ 10 ∷ [])
+  go true = sym (append-nil (steps_text older))
+  go false = refl
 
 -- ---- groups
 
