@@ -24,7 +24,7 @@ pub steps_more : (entries : List Entry) (i : ℕ) (entry : Entry) → slice_get 
 unfolding steps_text
 steps_more entries i entry at = rw (next_entry entries i entry at) refl
 
--- the steps with one more entry of those that pass the test, whose step is printed if it does
+-- the steps of those that do not go out, with one more entry, whose step is printed unless it goes out
 pub steps_kept : (out : ℕ → Bool) (entries : List Entry) (i : ℕ) (entry : Entry) → slice_get entries i ≡ Some entry
     → steps_text (kept (λ n. not (out n)) (reverse (take (i + 1) entries))) ≡ steps_text (kept (λ n. not (out n)) (reverse (take i entries))) ++ cond (out (actor entry.0).0) [] (step_text entry.0 ++ 10 ∷ [])
 unfolding steps_text

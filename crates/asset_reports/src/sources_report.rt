@@ -90,8 +90,8 @@ fn push_all(text: &mut String, walk: &mut SourceWalk) -> Result<(), NoMemory>
 }
 
 /// Appends a line for each read of the history that was answered by a value: the number of its entry, from 0, the read, the
-/// value, and its source: which entry made the last write in it, or the opening if there is none. It answers `NoMemory` if memory
-/// runs out, and drops the history.
+/// value, and its source: which entry made the last write in it, or the opening if there is none. It takes the history and drops it,
+/// and answers `NoMemory` if memory runs out.
 pub fn push_sources(alloc: Global, history: History, text: &mut String) -> Result<(), NoMemory>
     ensures { OnOk result (string_bytes text.new ≡ string_bytes text.old ++ sources_text history.entries) }
 {

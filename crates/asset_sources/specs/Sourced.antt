@@ -6,8 +6,14 @@ use Rattle.asset_names.specs.declared.replies.Reply.{Reply}
 use Rattle.asset_names.specs.declared.replies.Reply.TheVariants.{Value}
 use Rattle.asset_names.specs.Steps.{Entry}
 use Rattle.asset_names.specs.Sources.{Numbered, source}
+use Rattle.asset_entries.specs.Recorded.{Recorded}
 use Rattle.asset_sources.specs.declared.sourced.Source.{Source}
 use Rattle.asset_sources.specs.declared.sourced.Source.TheVariants as Source'
+
+-- a history, and how many of its entries a walk has passed
+pub record Passing : Type 0 where
+  pub history : Recorded
+  pub passed : ℕ
 
 -- the source of an object by the last write on it that stands: its entry, and the opening if there is none
 unfoldable pub source_from : Option Numbered → Source

@@ -6,11 +6,6 @@ use Rattle.asset_entries.specs.Recorded.{Recorded}
 use Rattle.asset_ends.specs.Shows.{Shows}
 use Rattle.asset_ends.specs.Standing.{Standing, values_of}
 
--- a history, and how many of its entries were passed
-pub record Passing : Type 0 where
-  pub history : Recorded
-  pub passed : ℕ
-
 -- the first entries of a history, newest first
 abbrev pub first_entries : Recorded → ℕ → List Entry
 first_entries history count = reverse (take count (reverse history.entries))

@@ -19,12 +19,14 @@ pub struct SourceWalk {
     passed: usize,
     // They show the entries that were passed, unless a call met that memory ran out.
     tables: Tables,
+    // Whether memory ran out in a call; then the tables are of no more use.
     is_lost: bool,
 }
 
 impl Model for SourceWalk {
     ghost use Rattle.std.specs.Prelude.{◌≡◌, ◌≤◌, false, length};
-    ghost use Rattle.asset_sources.specs.Walked.{Passing, ShowsFirstNumbered};
+    ghost use Rattle.asset_sources.specs.Sourced.{Passing};
+    ghost use Rattle.asset_sources.specs.Walked.{ShowsFirstNumbered};
 
     ghost Value = { Passing };
 
@@ -34,7 +36,7 @@ impl Model for SourceWalk {
 }
 
 impl SourceWalk {
-    ghost use Rattle.std.specs.Prelude.{◌≡◌, ◌+◌, ◌<◌, ◌≤◌, ◌^◌, ℤ, None, Some, Ok, List, ◌∷◌, ◌++◌, reverse, length, slice_get, IfOk, OnOk};
+    ghost use Rattle.std.specs.Prelude.{◌≡◌, ◌+◌, ◌<◌, ◌≤◌, ℤ, None, Some, Ok, List, ◌∷◌, ◌++◌, reverse, length, slice_get, IfOk, OnOk, OnErr};
     ghost use Rattle.asset_names.specs.declared.names.Txn.{Txn};
     ghost use Rattle.asset_names.specs.declared.names.Ob.{Ob};
     ghost use Rattle.asset_names.specs.declared.steps.Step.TheVariants.{Read};
@@ -42,7 +44,6 @@ impl SourceWalk {
     ghost use Rattle.asset_names.specs.Steps.{Entry};
     ghost use Rattle.asset_names.specs.Sources.{added, IsAlone, IsOwnOrCommitted, AreOwnOrCommitted};
     ghost use Rattle.asset_names.specs.Sources.{source as last_write};
-    ghost use Rattle.asset_names.specs.Answers.{IsLegal};
     ghost use Rattle.asset_sources.specs.Sourced.{source_from, source_at, read_of, read_with};
 
     /// Returns a walk that has passed no entry. It answers `NoMemory` if memory runs out, and then the history is dropped.
@@ -60,9 +61,7 @@ impl SourceWalk {
 
     /// Returns how many entries the history has.
     pub fn len(&self) -> usize
-        ensures len { result ≡ length self.now.history.entries }
-        ensures small { length self.now.history.entries < 2 ^ 63 }
-        ensures legal { IsLegal self.now.history.opening self.now.history.entries }
+        ensures { result ≡ length self.now.history.entries }
     {
         self.history.len()
     }
@@ -74,12 +73,13 @@ impl SourceWalk {
     pub fn pass(&mut self, step: &mut Step) -> Result<Option<(i64, Source)>, NoMemory>
         ensures history { self.new.history ≡ self.old.history }
         ensures past { length self.old.history.entries ≤ self.old.passed → (result ≡ Ok None) × (self.new.passed ≡ self.old.passed) }
+        ensures fault { OnErr result (self.new.passed ≡ self.old.passed) }
         ensures passed { self.old.passed < length self.old.history.entries → OnOk result (self.new.passed ≡ self.old.passed + 1) }
         ensures read { (entry : Entry) → slice_get (reverse self.old.history.entries) self.old.passed ≡ Some entry → IfOk result (λ found. read_with step.new found ≡ read_of entry.0 entry.1 (source_at self.old.history.entries self.old.passed)) }
         ensures alone { (newer older : List Entry) (t : Txn) (x : Ob) (v : ℤ) → self.old.history.entries ≡ newer ++ (Read t x, Value v) ∷ older → self.old.passed ≡ length older → IsAlone self.old.history.entries t.0 →
             IfOk result (λ found. (read_with step.new found ≡ Some (Read t x, v, source_from (last_write older x.0))) × IsOwnOrCommitted older t x (last_write older x.0) × AreOwnOrCommitted older t x (added older x.0)) }
     {
-        if self.passed >= self.len() {
+        if self.history.len() <= self.passed {
             return Ok(None);
         }
         if self.is_lost {

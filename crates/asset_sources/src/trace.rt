@@ -67,24 +67,8 @@ impl Trace {
         ensures alone { (newer older : List Entry) (t : Txn) (x : Ob) (v : ℤ) → self.now.entries ≡ newer ++ (Read t x, Value v) ∷ older → index ≡ length older → IsAlone self.now.entries t.0 →
             (result ≡ Some (Read t x, v, source_from (last_write older x.0))) × IsOwnOrCommitted older t x (last_write older x.0) × AreOwnOrCommitted older t x (added older x.0) }
     {
-        let mut step = Step::Commit { t: Txn(0) };
-        match self.read_into(index, &mut step) {
-            Some((v, source)) => Some((step, v, source)),
-            None => None,
-        }
-    }
-
-    /// Puts the step of the entry at the index into the slot. Returns the value that it got and the source of that value, if
-    /// `read` would return that read; if it returns `None`, what the slot has afterwards means nothing.
-    #[inline(always)]
-    fn read_into(&self, index: usize, step: &mut Step) -> Option<(i64, Source)>
-        ensures past { length self.now.entries ≤ index → result ≡ None }
-        ensures read { (entry : Entry) → slice_get (reverse self.now.entries) index ≡ Some entry →
-            read_with step.new result ≡ read_of entry.0 entry.1 (source_at self.now.entries index) }
-        ensures alone { (newer older : List Entry) (t : Txn) (x : Ob) (v : ℤ) → self.now.entries ≡ newer ++ (Read t x, Value v) ∷ older → index ≡ length older → IsAlone self.now.entries t.0 →
-            (read_with step.new result ≡ Some (Read t x, v, source_from (last_write older x.0))) × IsOwnOrCommitted older t x (last_write older x.0) × AreOwnOrCommitted older t x (added older x.0) }
-    {
-        let reply = self.history.entry_into(index, step)?;
-        with_source(reply, self.sources[index])
+        let (step, reply) = self.history.entry(index)?;
+        let (v, source) = with_source(reply, self.sources[index])?;
+        Some((step, v, source))
     }
 }

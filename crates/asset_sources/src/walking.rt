@@ -60,7 +60,8 @@ pub(crate) fn with_source(reply: Reply, source: Option<Source>) -> Option<(i64, 
 }
 
 /// Applies the answered step of the entry at the index to tables, with the number of the entry in place of a value, and
-/// returns what `source_read` says before. It answers `NoMemory` if memory runs out, and the tables are of no more use.
+/// returns what `source_read` says before. The slot has the step with that number afterwards. It answers `NoMemory` if memory
+/// runs out, and the tables are of no more use.
 fn apply_renumbered(
     index: usize,
     step: &mut Step,

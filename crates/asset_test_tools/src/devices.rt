@@ -67,7 +67,7 @@ impl io::Read for Reader<'_> {
 }
 
 /// Compares what it is given with the text that is wanted, at most `piece` bytes at a time. Once it has been asked `calls`
-/// times it fails, or takes nothing.
+/// times it fails, or takes nothing. `wanted` has what is still missing, and `same` says whether all that it took was wanted.
 #[derive(Drop)]
 pub struct Writer<'a> {
     pub wanted: &'a [u8],

@@ -1,5 +1,5 @@
 //! What the crates of tests lend one another: short words for steps, sets of objects, drawn numbers, plain tables, a script,
-//! and a reader and a writer in memory. No test stands here, so that what is lent is proved once.
+//! and a reader and a writer that take no memory. No test stands here, so that what is lent is proved once.
 #![tactic(auto)]
 
 mod devices;

@@ -16,7 +16,7 @@ entries-preserved c =
     let all = c.args.walk.now.history.entries in
     let entries = reverse all in
     let i = c.entries.i in
-    let below : i < length all = omega (arith, c.entries-test.true, c.len-i-end.ensures.len) in
+    let below : i < length all = omega (arith, c.entries-test.true, c.len-i-end.ensures) in
     let pushed = rw c.entries.invariant.history at c.in_ok-push_line.ensures.text in
     record {
       printed = elim (slice_get_cases entries i).1 [
@@ -35,5 +35,5 @@ pub returns : goal.returns
 returns c =
     let all = c.args.walk.now.history.entries in
     let whole : reverse (take c.entries.i (reverse all)) ≡ all =
-    ap reverse (take_all c.entries.i (reverse all) (omega (arith, c.entries-test.false, c.len-i-end.ensures.len, length-reverse all))) ∙ reverse-reverse all in
+    ap reverse (take_all c.entries.i (reverse all) (omega (arith, c.entries-test.false, c.len-i-end.ensures, length-reverse all))) ∙ reverse-reverse all in
     c.entries.invariant.printed ∙ ap (λ (l : List Entry). string_bytes c.args.text.now ++ sources_text l) whole
